@@ -1,0 +1,10 @@
+// The limits of a script and of its text. Each stands here once, and once in specs/Limits.antt for the contracts.
+
+// Blocks of a script, at the most.
+pub const MOST_BLOCKS: usize = 64;
+
+// Middle nodes of a script, all blocks together, at the most.
+pub const MOST_MIDDLES: usize = 512;
+
+// Bytes of a script's text, at the most.
+pub const MOST_BYTES: usize = 16384;
