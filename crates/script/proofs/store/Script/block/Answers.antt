@@ -24,7 +24,7 @@ returns-then-i-len c =
     let stored = c .index-stored .result .now in
     found-at (vec-items (self .middles)) 0 (vec-items (self .blocks)) (c .args .i) stored here (c .index-stored .ensures)
     ∙ sym (ap (λ ms. Some (ms, stored .last))
-      (c .part .ensures ∙ (λ i. take (stored .end - c .begin-from .ensures i) (drop (c .begin-from .ensures i) (c .as-slice .ensures .value i)))))
+    (c .part .ensures ∙ (λ i. take (stored .end - c .begin-from .ensures i) (drop (c .begin-from .ensures i) (c .as-slice .ensures .value i)))))
 
 pub returns-else-i-len : need.returns-else-i-len
 returns-else-i-len c =

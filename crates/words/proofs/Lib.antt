@@ -1,0 +1,6 @@
+pub mod Cuts
+pub mod Digits
+pub mod Spelt
+pub mod Steps
+pub mod Values
+pub mod Verbs
