@@ -1,3 +1,4 @@
 pub mod Blocks
+pub mod Fitting
 pub mod Same
 pub mod Whole

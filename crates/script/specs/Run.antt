@@ -9,6 +9,7 @@
 --   Place             where a run is: standing at a block, or ended with a result
 --   leaves l f        where the last node l leads from the file f
 --   Program           a script as a list of blocks, each its middle nodes and its last node
+--   Fits p            every number that p sets is a signed one of 32 bits, as every number of the code is
 --   hop p slots r     the run r after one hop more: a block's middle nodes in order, then its last node
 --   run p slots h     the run of p after h hops, from block 0 with every register 0
 --   Alike p q         p and q run alike
@@ -20,6 +21,7 @@ use lib.Dec.{eqb, lit<}
 use lib.IntN.{ℤ, pos}
 use mir.Syntax.{w32}
 use mir.Val.{SFits}
+use Rattle.std.specs.shelf.Lists.{All}
 use Rattle.script.specs.declared.register.Register.{Register}
 use Rattle.script.specs.declared.node.Middle.{Middle}
 use Rattle.script.specs.declared.node.Middle.the-variants.{Set, Mov, Compute, Get, Put}
@@ -73,6 +75,17 @@ Block = List Middle × Last
 
 abbrev pub Program : Type 0
 Program = List Block
+
+-- the number that a node sets is a signed one of 32 bits
+abbrev pub Fit : Middle → Type 0
+Fit (Set to value) = SFits w32 value
+Fit (Mov to from) = Unit {0}
+Fit (Compute operation to left right) = Unit {0}
+Fit (Get to slot) = Unit {0}
+Fit (Put from) = Unit {0}
+
+abbrev pub Fits : Program → Type 0
+Fits p = All (λ (k : Block). All Fit (k .0)) p
 
 -- `end r0`, the last node of a blank script
 abbrev pub end-r0 : Last

@@ -9,5 +9,6 @@ pub mod block;
 pub mod limits;
 pub mod looks;
 pub mod node;
+pub mod numbers;
 pub mod register;
 pub mod store;

@@ -1,0 +1,6 @@
+pub mod Builds
+pub mod Dues
+pub mod Entries
+pub mod Headers
+pub mod Loops
+pub mod Verbs
