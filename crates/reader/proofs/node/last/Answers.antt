@@ -13,7 +13,7 @@ pub returns-then-not-ends : need.returns-then-not-ends
 returns-then-not-ends c =
     let l = c .args .line .now in
     sym (line-miss (c .args .blocks) last-rows l
-      (last-other (c .in-Some .verb) (cut 32 l .0) (c .in-Some .ensures tt .finds ∙ c .cut .ensures .front) (sym (c .ends .ensures) ∙ c .if-not-ends .taken)))
+    (last-other (c .in-Some .verb) (cut 32 l .0) (c .in-Some .ensures tt .finds ∙ c .cut .ensures .front) (sym (c .ends .ensures) ∙ c .if-not-ends .taken)))
 
 pub returns-in-Ok : need.returns-in-Ok
 returns-in-Ok c =
@@ -41,4 +41,4 @@ pub returns-in-None : need.returns-in-None
 returns-in-None c =
     let l = c .args .line .now in
     sym (line-miss (c .args .blocks) last-rows l
-      (sym (ap (seek last-rows) (c .cut .ensures .front)) ∙ last-missing (c .cut .result .0 .now) (c .in-None .ensures tt .finds)))
+    (sym (ap (seek last-rows) (c .cut .ensures .front)) ∙ last-missing (c .cut .result .0 .now) (c .in-None .ensures tt .finds)))

@@ -16,7 +16,19 @@ r0 = same-register (register 0) (record { index = 0; ok = lit< tt }) refl
 
 pub returns : need.returns
 unfolding digits
-returns c =
-    (ap (λ r. script (([], End r) ∷ [])) r0, (refl, (refl, (refl,
-    (ap (λ r. script ((Set (register 1) (negsuc 2147483647) ∷ [], If (register 1) 0 1) ∷ ([], End r) ∷ [])) r0,
-    (refl, (refl, (refl, (refl, (refl, (refl, (refl, (refl, (refl, (refl, (refl, tt))))))))))))))))
+returns c = (
+  ap (λ r. script (([], End r) ∷ [])) r0,
+  (
+    refl,
+    (
+      refl,
+      (
+        refl,
+        (
+          ap (λ r. script ((Set (register 1) (negsuc 2147483647) ∷ [], If (register 1) 0 1) ∷ ([], End r) ∷ [])) r0,
+          (refl, (refl, (refl, (refl, (refl, (refl, (refl, (refl, (refl, (refl, (refl, tt))))))))))),
+        ),
+      ),
+    ),
+  ),
+)

@@ -62,7 +62,7 @@ returns c =
     let long : length (take (c .loop-i .size) (c .loop-i .row)) ≡ c .loop-i .size =
     simp length-take (omega (arith, fit, c .loop-i .inv .1, c .pre .small, c .pre .room, c .loop-i .kept .row)) in (
       built-all _ _ _ _ _ _ _ so (c .loop-i-test .left)
-      ∙ ap (λ n. Ok (blocks-from (take (c .loop-i .size) (c .loop-i .row)) 0 (take n (c .loop-i .ends)), cursor-of (c .loop-i .self))) all,
+          ∙ ap (λ n. Ok (blocks-from (take (c .loop-i .size) (c .loop-i .row)) 0 (take n (c .loop-i .ends)), cursor-of (c .loop-i .self))) all,
       (λ j. ends-at 0 (take (sym all j) (c .loop-i .ends)) (sym long j)) ∙ so .ends,
       ap (λ n. all-below (length ks) (take n (c .loop-i .ends))) (sym all) ∙ so .targets,
       c .loop-i .inv .1 ∙ ap total (take-all (c .loop-i .i) ks (c .loop-i-test .left)),

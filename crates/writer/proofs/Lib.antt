@@ -1,0 +1,5 @@
+pub mod Formed
+pub mod Nodes
+pub mod Puts
+pub mod Texts
+pub mod Trips
