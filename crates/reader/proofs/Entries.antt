@@ -21,16 +21,13 @@ use Rattle.words.specs.declared.flaw.Flaw.the-variants.{Form}
 use Rattle.words.specs.declared.kind.Kind.the-variants.{BlockWord}
 use Rattle.words.specs.Words.{cut, operand, operands, from-to}
 use Rattle.words.specs.Forms.{Row, follow, made-by, line-as}
+use Rattle.words.proofs.Cuts.{never}
 use Rattle.words.proofs.Spelt.{operand-is, operand-written, from-to-pos}
 
-pub both-ways : (a b : Bool) → (a ≡ true → b ≡ true) → (b ≡ true → a ≡ true) → a ≡ b
+both-ways : (a b : Bool) → (a ≡ true → b ≡ true) → (b ≡ true → a ≡ true) → a ≡ b
 both-ways true b f g = sym (f refl)
 both-ways false true f g = g refl
 both-ways false false f g = refl
-
-pub never : (b : Bool) → (b ≡ true → ⊥) → false ≡ b
-never true f = absurd (f refl)
-never false f = refl
 
 same-decimal : (v i : ℕ) → v < most-blocks → i < most-blocks → eqb v i ≡ sameBytes (decimal v) (decimal i)
 same-decimal v i a b =

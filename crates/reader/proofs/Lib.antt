@@ -3,4 +3,3 @@ pub mod Dues
 pub mod Entries
 pub mod Headers
 pub mod Loops
-pub mod Verbs

@@ -15,25 +15,26 @@ use super::entry::header;
 use super::fault::Due;
 use super::fault::Fault;
 use super::fault::Question;
-use super::node::last;
-use super::node::middle;
+use nodes::last;
+use nodes::middle;
 use script::node::Last;
 use script::node::Middle;
+use words::flaw::Flaw;
 use words::line::cut;
 
-impl<'a> Cursor<'a> {
-    // The fault of a question that is put here.
-    pub(crate) fn fault(&self, question: Question, due: Due) -> Fault
-        ensures { λ r. ⌜ r ≡ fault question due (cursor-of (now (self .entry))) ⌝ }
-    {
-        Fault {
-            question,
-            due,
-            line: self.line,
-            place: self.place,
-        }
+// The fault of words that have a flaw, in the line that begins at this place.
+fn flawed(flaw: Flaw, due: Due, line: usize, place: usize) -> Fault
+    ensures { λ r. ⌜ r ≡ fault (Question.Words flaw) due (record { line = line; place = place; rest = [] }) ⌝ }
+{
+    Fault {
+        question: Question::Words(flaw),
+        due,
+        line,
+        place,
     }
+}
 
+impl<'a> Cursor<'a> {
     // The line that is due, without its line feed.
     fn next_line(&mut self, due: Due) -> Result<&'a [u8], Fault>
         ensures { λ r. ⌜ elim r [ Ok l ↦ (cut-at 10 (now (now (self .entry) .rest)) ≡ (now l, Some (now (now (self .exit) .rest)))) × (cursor-of (now (self .exit)) ≡ past (cursor-of (now (self .entry))) (now l) (now (now (self .exit) .rest))) | Err f ↦ (cut-at 10 (now (now (self .entry) .rest)) .1 ≡ None) × (f ≡ fault Question.Feed due (cursor-of (now (self .entry)))) ] ⌝ }
@@ -64,12 +65,7 @@ impl<'a> Cursor<'a> {
         let words = self.next_line(Due::Header)?;
         match header(words) {
             Ok(n) => Ok(n as u8),
-            Err(flaw) => Err(Fault {
-                question: Question::Words(flaw),
-                due: Due::Header,
-                line,
-                place,
-            }),
+            Err(flaw) => Err(flawed(flaw, Due::Header, line, place)),
         }
     }
 
@@ -82,12 +78,7 @@ impl<'a> Cursor<'a> {
         let words = self.next_line(Due::Count)?;
         match count(i, words) {
             Ok(n) => Ok(n),
-            Err(flaw) => Err(Fault {
-                question: Question::Words(flaw),
-                due: Due::Count,
-                line,
-                place,
-            }),
+            Err(flaw) => Err(flawed(flaw, Due::Count, line, place)),
         }
     }
 
@@ -99,12 +90,7 @@ impl<'a> Cursor<'a> {
         let words = self.next_line(Due::MiddleNode)?;
         match middle(words, blocks) {
             Ok(node) => Ok(node),
-            Err(flaw) => Err(Fault {
-                question: Question::Words(flaw),
-                due: Due::MiddleNode,
-                line,
-                place,
-            }),
+            Err(flaw) => Err(flawed(flaw, Due::MiddleNode, line, place)),
         }
     }
 
@@ -116,12 +102,7 @@ impl<'a> Cursor<'a> {
         let words = self.next_line(Due::LastNode)?;
         match last(words, blocks) {
             Ok(node) => Ok(node),
-            Err(flaw) => Err(Fault {
-                question: Question::Words(flaw),
-                due: Due::LastNode,
-                line,
-                place,
-            }),
+            Err(flaw) => Err(flawed(flaw, Due::LastNode, line, place)),
         }
     }
 }

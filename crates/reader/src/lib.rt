@@ -10,7 +10,6 @@ pub mod cursor;
 pub mod due;
 pub mod entry;
 pub mod fault;
-pub mod node;
 pub mod whole;
 
 pub use whole::read;

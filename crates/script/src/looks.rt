@@ -58,9 +58,10 @@ impl Script {
     pub fn block(&self, i: usize) -> Option<Block<'_>>
         ensures { λ r. ⌜ elim r [ Some b ↦ found (program-of (now (self .entry))) i ≡ Some (now (b .middles), b .last) | None ↦ found (program-of (now (self .entry))) i ≡ None ] ⌝ }
     {
-        if i < self.blocks.len() {
+        let ends = self.blocks.as_slice();
+        if i < ends.len() {
             let from = self.begin(i);
-            let stored = self.blocks[i];
+            let stored = ends[i];
             Some(Block {
                 middles: part(self.middles.as_slice(), from, stored.end),
                 last: stored.last,

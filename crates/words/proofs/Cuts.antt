@@ -11,6 +11,11 @@ use Rattle.std.specs.declared.option.Option.{Option}
 use Rattle.std.specs.declared.option.Option.the-variants.{Some, None}
 use Rattle.words.specs.Words.{cut}
 
+-- a test that can't come out true comes out false
+pub never : (b : Bool) → (b ≡ true → ⊥) → false ≡ b
+never true f = absurd (f refl)
+never false f = refl
+
 -- the byte and what follows it, if there is something
 abbrev pub after : ℕ → Option (List ℕ) → List ℕ
 after c None = []

@@ -8,7 +8,8 @@ use Rattle.std.proofs.shelf.Tests.{true≢false}
 use Rattle.words.specs.declared.kind.Kind.the-variants.{SizeWord}
 use Rattle.words.specs.Words.{cut, operands}
 use Rattle.words.specs.Forms.{header-row, made-by}
-use Rattle.reader.proofs.Entries.{never, row-hit, row-miss}
+use Rattle.words.proofs.Cuts.{never}
+use Rattle.reader.proofs.Entries.{row-hit, row-miss}
 use Rattle.reader.proofs.entry.header.Needs as need
 
 pub returns-then-eq : need.returns-then-eq

@@ -6,8 +6,8 @@ use Rattle.std.specs.declared.result.Result.the-variants.{Ok, Err}
 use Rattle.words.specs.Forms.{last-rows, seek}
 use Rattle.words.specs.Table.{kinds-of}
 use Rattle.words.specs.Words.{cut, operands}
-use Rattle.reader.proofs.Verbs.{last-row, last-found, last-other, last-missing, last-local, line-miss, line-flaw, line-hit}
-use Rattle.reader.proofs.node.last.Needs as need
+use Rattle.nodes.proofs.Verbs.{last-row, last-found, last-other, last-missing, last-local, line-miss, line-flaw, line-hit}
+use Rattle.nodes.proofs.node.last.Needs as need
 
 pub returns-then-not-ends : need.returns-then-not-ends
 returns-then-not-ends c =

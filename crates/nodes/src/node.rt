@@ -4,7 +4,7 @@ ghost use mathlib.Core.Path.{_≡_};
 ghost use Prim.Native.Nat.{_%_, _<_};
 ghost use lib.IntN.{natAbs};
 ghost use lib.ListN.{length};
-ghost use Rattle.reader.specs.Nodes.{ends-block, middle-make, last-make};
+ghost use Rattle.nodes.specs.Nodes.{ends-block, middle-make, last-make};
 ghost use Rattle.words.specs.Forms.{register as register-of, slot as slot-of, compute-row, middle-rows, last-rows, line-as};
 use script::limits::REGISTERS;
 use script::limits::SLOTS;
@@ -123,7 +123,7 @@ fn last_of(verb: Verb, v: &[i32]) -> Last
 }
 
 // A middle node, in a script of so many blocks.
-pub(crate) fn middle(line: &[u8], blocks: u8) -> Result<Middle, Flaw>
+pub fn middle(line: &[u8], blocks: u8) -> Result<Middle, Flaw>
     ensures { λ r. ⌜ r ≡ line-as blocks middle-rows (now (line .entry)) ⌝ }
 {
     let (first, rest) = cut(line, b' ');
@@ -142,7 +142,7 @@ pub(crate) fn middle(line: &[u8], blocks: u8) -> Result<Middle, Flaw>
 }
 
 // A last node, in a script of so many blocks.
-pub(crate) fn last(line: &[u8], blocks: u8) -> Result<Last, Flaw>
+pub fn last(line: &[u8], blocks: u8) -> Result<Last, Flaw>
     ensures { λ r. ⌜ r ≡ line-as blocks last-rows (now (line .entry)) ⌝ }
 {
     let (first, rest) = cut(line, b' ');

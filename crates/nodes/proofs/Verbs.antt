@@ -19,8 +19,8 @@ use Rattle.words.specs.declared.verb.Verb.the-variants.{Set, Mov, Add, Sub, Mul
 use Rattle.words.specs.Forms.{Row, node-row, seek, follow, made-by, line-as, middle-rows, last-rows}
 use Rattle.words.specs.Table.{name-of}
 use Rattle.words.specs.Words.{cut, operands}
-use Rattle.reader.specs.Nodes.{ends-block, middle-make, last-make}
-use Rattle.reader.proofs.Entries.{never}
+use Rattle.nodes.specs.Nodes.{ends-block, middle-make, last-make}
+use Rattle.words.proofs.Cuts.{never}
 
 -- ---- the row of a verb
 

@@ -6,7 +6,7 @@ use Rattle.std.proofs.shelf.Signed.{toZ-ofZ}
 use Rattle.script.proofs.Same.{same-slot}
 use Rattle.script.specs.Limits.{slots}
 use Rattle.words.specs.Forms.{slot}
-use Rattle.reader.proofs.node.slot.Needs as need
+use Rattle.nodes.proofs.node.slot.Needs as need
 
 pub returns : need.returns
 returns c =

@@ -6,7 +6,7 @@ use Rattle.std.proofs.shelf.Signed.{toZ-ofZ}
 use Rattle.script.proofs.Same.{same-register}
 use Rattle.script.specs.Limits.{registers}
 use Rattle.words.specs.Forms.{register}
-use Rattle.reader.proofs.node.register.Needs as need
+use Rattle.nodes.proofs.node.register.Needs as need
 
 pub returns : need.returns
 returns c =

@@ -6,8 +6,8 @@ use Rattle.std.specs.declared.result.Result.the-variants.{Ok, Err}
 use Rattle.words.specs.Forms.{middle-rows, seek}
 use Rattle.words.specs.Table.{kinds-of}
 use Rattle.words.specs.Words.{cut, operands}
-use Rattle.reader.proofs.Verbs.{middle-row, middle-found, middle-other, middle-missing, middle-local, line-miss, line-flaw, line-hit}
-use Rattle.reader.proofs.node.middle.Needs as need
+use Rattle.nodes.proofs.Verbs.{middle-row, middle-found, middle-other, middle-missing, middle-local, line-miss, line-flaw, line-hit}
+use Rattle.nodes.proofs.node.middle.Needs as need
 
 pub returns-then-ends : need.returns-then-ends
 returns-then-ends c =
