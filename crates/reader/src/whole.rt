@@ -112,7 +112,7 @@ pub fn read(text: &[u8], into: &mut Script) -> Result<(), Fault>
             );
             Ok(())
         }
-        Err(fault) => Err(fault),
+        Err(first) => Err(first),
     }
 }
 
