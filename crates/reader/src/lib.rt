@@ -4,12 +4,13 @@
 // specs/Read.antt, which asks the questions in their order. On a fault nothing has changed: the lines are read into rows
 // of the reader's own, and the script that was lent is written only when the whole text is read. No memory is asked for.
 // Whether a text is short enough to be read at all is asked by whoever takes texts in.
-pub mod bodies;
-pub mod contents;
-pub mod cursor;
-pub mod due;
-pub mod entry;
+mod bodies;
+mod contents;
+mod cursor;
+mod due;
+mod entry;
 pub mod fault;
-pub mod whole;
+mod whole;
 
+pub use whole::cases_stand;
 pub use whole::read;
