@@ -25,7 +25,7 @@ pub enum Layer {
 }
 
 // The line that was due where a question was put.
-#[derive(Clone, Copy, PartialEq, Eq)]
+#[derive(Clone, Copy)]
 pub enum Due {
     // `blocks N`
     Header,

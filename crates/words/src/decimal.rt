@@ -36,7 +36,7 @@ fn put_digits(out: &mut [u8], end: usize, n: u32)
     out[at] = b'0' + rest as u8;
 }
 
-// The same of a place inside.
+// Writes a number from a place that is not past the end.
 fn put_inside(out: &mut [u8], at: usize, value: i32) -> Option<usize>
     requires { ⌜ at ≤ length (now out) ⌝ }
     ensures { λ r. ⌜ Placed r (now (out .entry)) at (signed-of value) (now (out .exit)) ⌝ }

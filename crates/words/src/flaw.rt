@@ -1,5 +1,5 @@
 // What is wrong with the words of a line.
-#[derive(Clone, Copy, PartialEq, Eq)]
+#[derive(Clone, Copy)]
 pub enum Flaw {
     // they have not the form that is due
     Form,

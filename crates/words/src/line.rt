@@ -42,6 +42,7 @@ pub fn cut(bytes: &[u8], byte: u8) -> (&[u8], Option<&[u8]>)
     }
 }
 
+// Sets one of the numbers.
 fn put(values: &mut [i32], i: usize, x: i32)
     requires { ⌜ i < length (now values) ⌝ }
     ensures { λ _. ⌜ now (values .exit) ≡ set (now (values .entry)) i x ⌝ }
@@ -91,7 +92,7 @@ pub fn operands(verb: Verb, blocks: u8, rest: Option<&[u8]>) -> Result<[i32; 3],
     }
 }
 
-// The one number that follows the first word of a line.
+// The one number that follows the first word of a line, as what a header or a contents line makes of it.
 pub fn one_number(kind: Kind, rest: Option<&[u8]>) -> Result<u32, Flaw>
     ensures { λ r. ⌜ r ≡ made-by (contents-row 0) (operands-of 0 (kind ∷ []) (mapped now (rest .entry))) ⌝ }
 {
