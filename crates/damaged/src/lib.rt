@@ -2,6 +2,8 @@
 //
 // There is nothing here but tests of the crates reader, writer and tell. What a fault must be was worked out by hand. The
 // texts are written with the shorthands of src/shorthand.rt, a bar for a line feed above all.
+#![tactic(auto)]
+
 #[cfg(test)]
 mod contents;
 #[cfg(test)]

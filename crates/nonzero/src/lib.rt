@@ -1,6 +1,8 @@
 // A pass as a product group brings it: which registers are known not to hold 0.
 //
 // It rests on `script` and `pass` alone, and docs/WRITING_A_PASS.md builds it step by step.
+#![tactic(auto)]
+
 ghost use Rattle.std.specs.Prelude.{◌≡◌};
 ghost use Rattle.nonzero.specs.Marks.{Valid, Cautious, Admits, how_many, nothing, knows, marked, meet, after as after-marks, along as along-marks, in_place, in_place_last};
 ghost use Rattle.nonzero.specs.Joins;

@@ -4,6 +4,8 @@
 // is said by ghost members, and what they must keep is a law of `Lattice` and the promise of `ForwardPass::sound`; whoever
 // runs a pass trusts these and nothing else. `Pair` makes one pass of two, to any depth. Running passes over a script is
 // left to the crates above.
+#![tactic(auto)]
+
 mod admission;
 pub mod edge;
 pub mod forward;

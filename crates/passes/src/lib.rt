@@ -2,6 +2,8 @@
 //
 // Each is one page of code over the definitions in specs/, and is shown to be a lawful pass; running them is left to the
 // crates above.
+#![tactic(auto)]
+
 pub mod constants;
 pub mod copies;
 mod sources;

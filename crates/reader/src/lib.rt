@@ -4,6 +4,8 @@
 // specs/Read.antt, which asks the questions in their order. On a fault nothing has changed: the lines are read into rows
 // of the reader's own, and the script that was lent is written only when the whole text is read. No memory is asked for.
 // Whether a text is short enough to be read at all is asked by whoever takes texts in.
+#![tactic(auto)]
+
 mod bodies;
 mod contents;
 mod cursor;

@@ -4,6 +4,8 @@
 // are below 16, a script has 1 to 64 blocks and at most 512 middle nodes, and every block that a last node names is
 // there. What a run of a script is, and when two scripts run alike, is defined in specs/Run.antt. Reading and writing
 // text is left to the crates above.
+#![tactic(auto)]
+
 pub mod arithmetic;
 pub mod block;
 pub mod limits;

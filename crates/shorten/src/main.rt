@@ -4,6 +4,8 @@
 //
 // IN is the path of the script's text; without it, or where it is `-`, the text is read from standard input. Where OUT is
 // given, the script is written there. A text that is no script is told of on standard error, and nothing is written.
+#![tactic(auto)]
+
 mod arguments;
 mod report;
 mod stop;

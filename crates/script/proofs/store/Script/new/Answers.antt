@@ -4,7 +4,7 @@ use Rattle.script.proofs.store.Script.new.Goals as goal
 
 pub returns : goal.returns
 returns c =
-    let ms : vec_items c.in-ok-middles.middles ≡ [] = c.in-ok-middles.ensures.items in
-    let before : vec_items c.in-ok-blocks.blocks ≡ [] = c.in-ok-blocks.ensures.items in
-    let bs : vec_items c.push-reserved.new.self ≡ blank_end ∷ [] = c.push-reserved.ensures.items ∙ (λ i. before i ++ c.ending.ensures i ∷ []) in
+    let ms : vec_items c.in_ok-middles.middles ≡ [] = c.in_ok-middles.ensures.items in
+    let before : vec_items c.in_ok-blocks.blocks ≡ [] = c.in_ok-blocks.ensures.items in
+    let bs : vec_items c.push_reserved.new.self ≡ blank_end ∷ [] = c.push_reserved.ensures.items ∙ (λ i. before i ++ c.ending.ensures i ∷ []) in
     λ i. blocks_from (ms i) 0 (bs i)

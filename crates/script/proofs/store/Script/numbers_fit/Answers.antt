@@ -8,4 +8,4 @@ use Rattle.script.proofs.store.Script.numbers_fit.Goals as goal
 pub returns : goal.returns
 returns c =
     let self = c.args.self.now in
-    blocks_fit (vec_items self.middles) 0 (vec_items self.blocks) (subst (λ (ms : List Middle). All Fit ms) c.as-slice.ensures.value c.all-fit.ensures)
+    blocks_fit (vec_items self.middles) 0 (vec_items self.blocks) (subst (λ (ms : List Middle). All Fit ms) c.as_slice.ensures.value c.all_fit.ensures)
