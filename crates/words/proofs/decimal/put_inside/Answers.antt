@@ -12,6 +12,6 @@ overflow-add-digits c =
 pub returns-else-out-at : goal.returns-else-out-at
 returns-else-out-at c =
     let same = to_z-of_z w32 c.args.value c.ranges.value in
-    put_minus c.args.out.now c.put-digits.new.out c.args.at c.unsigned-abs-size.result c.digit-count-digits.result _ c.args.value
-    (sym (ap (λ z. lt_z z (pos 0)) same) ∙ c.if-value-lt0.true) (c.unsigned-abs-size.ensures.value ∙ ap nat_abs same) c.digit-count-digits.ensures refl
-    (omega arith) c.put-digits.ensures
+    put_minus c.args.out.now c.put_digits.new.out c.args.at c.unsigned_abs-size.result c.digit_count-digits.result _ c.args.value
+    (sym (ap (λ z. lt_z z (pos 0)) same) ∙ c.if-value-lt0.true) (c.unsigned_abs-size.ensures.value ∙ ap nat_abs same) c.digit_count-digits.ensures refl
+    (omega arith) c.put_digits.ensures

@@ -53,12 +53,12 @@ returns-then-is-some c =
 pub returns-then-far : goal.returns-then-far
 returns-then-far c =
     values_end c.args.blocks c.args.kinds.now c.loop-i.i c.loop-i-test.false _ (take c.loop-i.i c.loop-i.v) c.loop-i.far (option_map (λ x. x.now) c.loop-i.left) c.loop-i.invariant.1
-    ∙ (λ j. onto (take c.loop-i.i c.loop-i.v) (c.if-far.true j) (end_none c.args.blocks (λ x. x.now) c.loop-i.left (sym c.if-is-some.ensures) j))
+    ∙ (λ j. onto (take c.loop-i.i c.loop-i.v) (c.if-far.true j) (end_none c.args.blocks (λ x. x.now) c.loop-i.left (sym c.if-is_some.ensures) j))
 
 pub returns-else-far : goal.returns-else-far
 returns-else-far c =
     let i = c.loop-i.i in
     let all : i ≡ length c.args.kinds.now = omega (arith, c.loop-i.auto, c.loop-i-test.false) in
     values_end c.args.blocks c.args.kinds.now c.loop-i.i c.loop-i-test.false _ (take c.loop-i.i c.loop-i.v) c.loop-i.far (option_map (λ x. x.now) c.loop-i.left) c.loop-i.invariant.1
-    ∙ (λ j. onto (take (all j) c.loop-i.v) (c.if-far.false j) (end_none c.args.blocks (λ x. x.now) c.loop-i.left (sym c.if-is-some.ensures) j))
+    ∙ (λ j. onto (take (all j) c.loop-i.v) (c.if-far.false j) (end_none c.args.blocks (λ x. x.now) c.loop-i.left (sym c.if-is_some.ensures) j))
     ∙ ap Ok (append-nil _)

@@ -12,7 +12,7 @@ returns-then-not-is-ascii-digit c =
 pub loop-d-preserved : goal.loop-d-preserved
 loop-d-preserved c =
     let more = read_more c.args.digits.now c.loop-d.d-index c.loop-d-test.true in (
-      digits_more c.args.digits.now c.loop-d.d-index c.loop-d-test.true c.loop-d.invariant.0 (sym c.if-not-is-ascii-digit.ensures.value),
+      digits_more c.args.digits.now c.loop-d.d-index c.loop-d-test.true c.loop-d.invariant.0 (sym c.if-not-is_ascii_digit.ensures.value),
       omega (arith, c.min-n.ensures, c.loop-d.invariant.1),
     )
 
