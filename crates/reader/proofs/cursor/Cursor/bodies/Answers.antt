@@ -25,7 +25,7 @@ body-requires c =
 
 pub returns-in_err-last : goal.returns-in_err-last
 returns-in_err-last c =
-    let p = err_from_is_err_and c.from-residual.result c.from-residual.ensures.1 in
+    let p = err_from_is_err_and c.from_residual.result c.from_residual.ensures.1 in
     rw (p.1, p.2) (built_fault _ _ _ _ _ _ _ c.loop-i.invariant.0 c.loop-i-test.true _ c.in_err-last.ensures)
 
 pub loop-i-preserved : goal.loop-i-preserved

@@ -9,7 +9,7 @@ use Rattle.reader.proofs.cursor.Cursor.contents.Goals as goal
 
 pub returns-in_err-count : goal.returns-in_err-count
 returns-in_err-count c =
-    let p = err_from_is_err_and c.from-residual.result c.from-residual.ensures.1 in
+    let p = err_from_is_err_and c.from_residual.result c.from_residual.ensures.1 in
     rw (p.1, p.2) (c.loop-i.invariant.0 ∙ contents_fault c.args.n c.loop-i.i c.loop-i.total (cursor_of c.loop-i.self) (take c.loop-i.i c.loop-i.counts) c.loop-i-test.true _ c.in_err-count.ensures)
 
 pub returns-then-total-gt-MOST_MIDDLES : goal.returns-then-total-gt-MOST_MIDDLES

@@ -18,7 +18,7 @@ loop-i-init c =
 
 pub returns-in_err-node : goal.returns-in_err-node
 returns-in_err-node c =
-    let p = err_from_is_err_and c.from-residual.result c.from-residual.ensures.1 in
+    let p = err_from_is_err_and c.from_residual.result c.from_residual.ensures.1 in
     let so = c.loop-i.invariant in
     rw (p.1, p.2) (so.2 ∙ middles_fault c.args.blocks c.args.count c.loop-i.i (cursor_of c.loop-i.self) so.0 c.loop-i-test.true _ c.in_err-node.ensures)
 
