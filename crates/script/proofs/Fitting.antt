@@ -1,6 +1,6 @@
 -- Numbers of 32 bits: what arithmetic gives is one, and the numbers of a stored script are where those of its row of
 -- middle nodes are.
-use Rattle.std.proofs.Common.{ℕ, ◌-◌, Bool, true, false, List, [], ◌∷◌, take, drop, ℤ, lit<, w32, SFits}
+use Rattle.std.proofs.Common.{ℕ, ◌-◌, Bool, true, false, List, [], ◌∷◌, drop, ℤ, lit<, w32, SFits}
 use Rattle.std.specs.List.{AllByRecursion as All}
 use Rattle.std.proofs.ByRecursion.{All-take, All-drop}
 use Rattle.std.proofs.lemmas.Int.{SFits-int_wrap}

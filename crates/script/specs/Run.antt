@@ -17,7 +17,6 @@ use Rattle.std.specs.Prelude.{◌≡◌, ℕ, zero, suc, cond, List, [], ◌∷�
 use Rattle.std.proofs.Common.{lit<}
 use Rattle.std.specs.Int.{w32}
 use Rattle.std.specs.List.{AllByRecursion as All}
-use Rattle.script.specs.declared.register.Register.{Register}
 use Rattle.script.specs.declared.node.Middle.{Middle}
 use Rattle.script.specs.declared.node.Middle.TheVariants.{Set, Mov, Compute, Get, Put}
 use Rattle.script.specs.declared.node.Last.{Last}

@@ -1,8 +1,7 @@
 -- Whole texts: what is read is what is written, and what is written is read.
-use Rattle.std.proofs.Common.{◌≡◌, ℕ, zero, suc, ◌+◌, ◌*◌, ◌<◌, ◌≤◌, Bool, true, false, cond, leb, List, [], ◌∷◌, ◌++◌, length, Ok, Err, Result, sym, refl, ap, ◌∙◌, arith, length-append}
+use Rattle.std.proofs.Common.{◌≡◌, ℕ, zero, suc, ◌+◌, ◌*◌, ◌≤◌, Bool, true, false, cond, leb, List, [], ◌∷◌, length, Ok, Err, Result, sym, refl, ap, ◌∙◌, arith, length-append}
 use Rattle.std.proofs.lemmas.Bool.{le-leb}
 use Rattle.script.specs.declared.node.Middle.{Middle}
-use Rattle.script.specs.declared.node.Last.{Last}
 use Rattle.script.specs.Run.{Block, Program}
 use Rattle.reader.specs.declared.fault.Fault.{Fault}
 use Rattle.reader.specs.declared.fault.Due.TheVariants.{Header, Count, MiddleNode, LastNode}
@@ -16,7 +15,7 @@ use Rattle.script.specs.Limits.{most_blocks, most_middles, most_bytes}
 use Rattle.script.specs.Model.{middle_count}
 use Rattle.script.specs.Run.{Fit, Fits}
 use Rattle.reader.specs.Totals.{total}
-use Rattle.writer.proofs.Formed.{Below, EachBelow, WellFormed}
+use Rattle.writer.proofs.Formed.{EachBelow, WellFormed}
 use Rattle.reader.proofs.Dues.{due_is, due_written}
 use Rattle.writer.proofs.Nodes.{WrittenAs, Header as SaidHeader, Line, middle_each, last_each, count_each, header_each, middle_line, last_line, header_line, count_line}
 
