@@ -1,6 +1,6 @@
 -- The arithmetic of scripts: on whole numbers, wrapped to 32 bits.
 --
---   wrapped w32 z     the low 32 bits of z, read as two's complement (of the library)
+--   int_wrap w32 z    the low 32 bits of z, read as two's complement (of the library)
 --   same a b          whether two whole numbers are equal
 --   quotient a b      a by b, cut toward zero; 0 when b is 0
 --   truth t           1 for true, 0 for false
