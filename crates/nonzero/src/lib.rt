@@ -55,7 +55,7 @@ impl Lattice for NonZero {
 
     ghost joined = { λ _. meet };
 
-    ghost lawful = { λ p. Joins.lattice };
+    ghost lawful = { λ _. Joins.lattice };
 
     fn start(&self) -> Marks {
         Marks {

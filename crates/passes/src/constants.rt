@@ -5,7 +5,7 @@ ghost use Rattle.script.specs.Limits.{registers};
 ghost use Rattle.pass.specs.Pieces.{middle_piece, last_piece};
 ghost use Rattle.passes.specs.Shared.{both as both-know};
 ghost use Rattle.passes.specs.Constants.{Valid, Cautious, Admits, how_many, all_zero, meet, known_as, becomes as becomes-fact, combined as combined-number, after as after-fact, along as along-fact, sets as sets-piece, in_place, goes as goes-piece, in_place_last};
-ghost use Rattle.passes.specs.ConstantsLaws.{lattice as lattice-laws};
+ghost use Rattle.passes.specs.ConstantsLaws;
 
 use pass::edge::Edge;
 use pass::forward::ForwardPass;
@@ -120,7 +120,7 @@ impl Lattice for Constants {
 
     ghost joined = { λ _. meet };
 
-    ghost lawful = { λ p. lattice-laws };
+    ghost lawful = { λ _. ConstantsLaws.lattice };
 
     fn start(&self) -> Numbers {
         Numbers {

@@ -2,7 +2,7 @@
 ghost use Rattle.std.specs.Prelude.{◌≡◌};
 ghost use Rattle.pass.specs.Pieces.{middle_piece, last_piece};
 ghost use Rattle.passes.specs.Copies.{Valid, Cautious, Admits, how_many, none, meet, after as after-fact, along as along-fact, from_sources, last_from_sources, in_place, in_place_last};
-ghost use Rattle.passes.specs.CopiesLaws.{lattice as lattice-laws};
+ghost use Rattle.passes.specs.CopiesLaws;
 
 use crate::sources::Sources;
 use pass::edge::Edge;
@@ -112,7 +112,7 @@ impl Lattice for Copies {
 
     ghost joined = { λ _. meet };
 
-    ghost lawful = { λ p. lattice-laws };
+    ghost lawful = { λ _. CopiesLaws.lattice };
 
     fn start(&self) -> PlainSources {
         nothing()
