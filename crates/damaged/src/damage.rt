@@ -29,21 +29,15 @@ pub struct Damage {
     pub after: &'static str,
 }
 
-// That a text has a fault, and just this one.
-fn has_fault(
-    rt: &impl Abort,
-    text: &[u8],
-    script: &mut Script,
-    wanted: Wanted,
-) -> Result<(), Fail> {
+// That the text of a line has a fault, and just this one.
+fn has_fault(rt: &impl Abort, line: &str, text: &[u8], script: &mut Script, wanted: Wanted) {
     match read(text, script) {
-        Ok(()) => Err(Fail::new("it was read")),
+        Ok(()) => panic!(rt; "{line}: it was read"),
         Err(fault) => {
-            assert_eq!(rt; fault.number(), wanted.number);
-            assert!(rt; fault.layer() == wanted.layer);
-            assert_eq!(rt; fault.line, wanted.line);
-            assert_eq!(rt; fault.place, wanted.place);
-            Ok(())
+            assert_eq!(rt; fault.number(), wanted.number, "{line}");
+            assert!(rt; fault.layer() == wanted.layer, "{line}");
+            assert_eq!(rt; fault.line, wanted.line, "{line}");
+            assert_eq!(rt; fault.place, wanted.place, "{line}");
         }
     }
 }
@@ -64,7 +58,7 @@ fn try_all(
     for row in table {
         for line in row.lines.split(';') {
             let text = text_with(heap, row, line)?;
-            has_fault(rt, text.as_slice(), script, row.wanted).note(line)?;
+            has_fault(rt, line, text.as_slice(), script, row.wanted);
         }
     }
     Ok(())

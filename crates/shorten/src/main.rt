@@ -11,10 +11,10 @@ mod report;
 mod stop;
 mod text;
 
-use anyhow::anyhow;
 use arguments::Arguments;
 use report::report;
 use script::limits::MOST_BYTES;
+use std::process::ExitCode;
 use stop::Stop;
 
 // The whole way of a script, from its text to the text that is written.
@@ -32,13 +32,13 @@ fn shorten<'a>(rt: &HostRuntime, arguments: &'a Arguments) -> Result<(), Stop<'a
     Ok(())
 }
 
-fn main(rt: HostRuntime) -> anyhow::Result<()> {
+fn main(rt: HostRuntime) -> anyhow::Result<ExitCode> {
     let arguments = Arguments::given(&rt)?;
     match shorten(&rt, &arguments) {
-        Ok(()) => Ok(()),
+        Ok(()) => Ok(ExitCode::SUCCESS),
         Err(stop) => {
             eprintln!(rt; "{stop}")?;
-            Err(anyhow!("no script was written"))
+            Ok(ExitCode::FAILURE)
         }
     }
 }

@@ -21,7 +21,7 @@ returns-in-Ok c =
     let ops : operands c.args.blocks (kinds_of verb) (cut 32 l).1 ≡ Ok (take (length (kinds_of verb)) v) =
     sym (ap (operands c.args.blocks (kinds_of verb)) c.cut.ensures.back) ∙ c.in-Ok.ensures in
     let three : length v ≡ 3 = search rules in
-    ap Ok c.last-of.ensures ∙ sym (line_hit c.args.blocks last_rows l (last_row verb) v hit ops three (last_local verb))
+    ap Ok c.last_of.ensures ∙ sym (line_hit c.args.blocks last_rows l (last_row verb) v hit ops three (last_local verb))
 
 pub returns-in-Err : goal.returns-in-Err
 returns-in-Err c =

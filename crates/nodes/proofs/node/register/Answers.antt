@@ -8,4 +8,4 @@ use Rattle.nodes.proofs.node.register.Goals as goal
 pub returns : goal.returns
 returns c =
     same_register _ (register (nat_abs c.args.x))
-    (ap (λ (n : ℕ). n % registers) (c.unsigned-abs.ensures.value ∙ ap nat_abs (to_z-of_z w32 c.args.x c.ranges.x)))
+    (ap (λ (n : ℕ). n % registers) (c.unsigned_abs.ensures.value ∙ ap nat_abs (to_z-of_z w32 c.args.x c.ranges.x)))

@@ -8,4 +8,4 @@ use Rattle.nodes.proofs.node.slot.Goals as goal
 pub returns : goal.returns
 returns c =
     same_slot _ (slot (nat_abs c.args.x))
-    (ap (λ (n : ℕ). n % slots) (c.unsigned-abs.ensures.value ∙ ap nat_abs (to_z-of_z w32 c.args.x c.ranges.x)))
+    (ap (λ (n : ℕ). n % slots) (c.unsigned_abs.ensures.value ∙ ap nat_abs (to_z-of_z w32 c.args.x c.ranges.x)))

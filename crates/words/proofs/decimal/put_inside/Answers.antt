@@ -5,9 +5,9 @@ use Rattle.std.proofs.lemmas.Fmt.{length-decimal-le}
 use Rattle.words.proofs.Steps.{put_minus}
 use Rattle.words.proofs.decimal.put_inside.Goals as goal
 
-pub overflow-add-digits : goal.overflow-add-digits
-overflow-add-digits c =
-    record { fits = omega (arith, c.digit-count-digits.ensures, length-decimal-le 10 c.unsigned-abs-size.result (omega arith) (omega arith) (omega arith)) }
+pub overflow_add-digits : goal.overflow_add-digits
+overflow_add-digits c =
+    record { fits = omega (arith, c.digit_count-digits.ensures, length-decimal-le 10 c.unsigned_abs-size.result (omega arith) (omega arith) (omega arith)) }
 
 pub returns-else-out-at : goal.returns-else-out-at
 returns-else-out-at c =

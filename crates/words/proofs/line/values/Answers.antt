@@ -9,9 +9,9 @@ use Rattle.words.proofs.Spelt.{operand_fits}
 use Rattle.words.proofs.line.values.Goals as goal
 use Rattle.words.proofs.line.values.Goals.{in-Ok, in-Err+in-Range}
 
-pub returns-in-default : goal.returns-in-default
-returns-in-default c =
-    values_none c.args.blocks c.args.kinds.now c.loop-i.i RegisterWord c.loop-i-test.true _ (take c.loop-i.i c.loop-i.v) c.loop-i.far (option_map (λ x. x.now) c.loop-i.left) c.loop-i.invariant.1 (ap (option_map (λ x. x.now)) c.in-default.is)
+pub returns-in_default : goal.returns-in_default
+returns-in_default c =
+    values_none c.args.blocks c.args.kinds.now c.loop-i.i RegisterWord c.loop-i-test.true _ (take c.loop-i.i c.loop-i.v) c.loop-i.far (option_map (λ x. x.now) c.loop-i.left) c.loop-i.invariant.1 (ap (option_map (λ x. x.now)) c.in_default.is)
 
 pub returns-in-Form : goal.returns-in-Form
 returns-in-Form c =
@@ -44,10 +44,10 @@ loop-i-preserved c =
       )
     ]
 
-pub returns-then-is-some : goal.returns-then-is-some
-returns-then-is-some c =
+pub returns-then-is_some : goal.returns-then-is_some
+returns-then-is_some c =
     values_end c.args.blocks c.args.kinds.now c.loop-i.i c.loop-i-test.false _ (take c.loop-i.i c.loop-i.v) c.loop-i.far (option_map (λ x. x.now) c.loop-i.left) c.loop-i.invariant.1
-    ∙ ap (onto (take c.loop-i.i c.loop-i.v) c.loop-i.far) (end_some c.args.blocks (λ x. x.now) c.loop-i.left (sym c.if-is-some.ensures))
+    ∙ ap (onto (take c.loop-i.i c.loop-i.v) c.loop-i.far) (end_some c.args.blocks (λ x. x.now) c.loop-i.left (sym c.if-is_some.ensures))
     ∙ onto_err (take c.loop-i.i c.loop-i.v) c.loop-i.far _
 
 pub returns-then-far : goal.returns-then-far

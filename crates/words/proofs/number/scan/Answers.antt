@@ -4,9 +4,9 @@ use Rattle.std.specs.Str.{all_ascii_digits}
 use Rattle.words.proofs.Digits.{read_more, digits_more, digits_stop}
 use Rattle.words.proofs.number.scan.Goals as goal
 
-pub returns-then-not-is-ascii-digit : goal.returns-then-not-is-ascii-digit
-returns-then-not-is-ascii-digit c =
-    let no = digits_stop c.args.digits.now c.loop-d.d-index c.loop-d-test.true (sym c.if-not-is-ascii-digit.ensures.value) in
+pub returns-then-not-is_ascii_digit : goal.returns-then-not-is_ascii_digit
+returns-then-not-is_ascii_digit c =
+    let no = digits_stop c.args.digits.now c.loop-d.d-index c.loop-d-test.true (sym c.if-not-is_ascii_digit.ensures.value) in
     rw no
 
 pub loop-d-preserved : goal.loop-d-preserved

@@ -6,15 +6,15 @@ use Rattle.writer.specs.Wrote.{Wrote}
 use Rattle.writer.proofs.Puts.{wrote_then, wrote_none}
 use Rattle.writer.proofs.line.put_node.Goals as goal
 
-pub returns-in-Some-put-rest : goal.returns-in-Some-put-rest
-returns-in-Some-put-rest c =
-    let r = Some c.in-Some-put-rest.end in
+pub returns-in-Some-put_rest : goal.returns-in-Some-put_rest
+returns-in-Some-put_rest c =
+    let r = Some c.in-Some-put_rest.end in
     let rest : List Kind → List ℕ = λ ks. spaced ks c.args.values.now ++ 10 ∷ [] in
-    let all = wrote_then r c.args.out.now c.put-bytes.new.out c.put-rest.new.out c.name.result.now (rest c.kinds.result.now) c.args.at c.in-Some.next c.in-Some.ensures c.put-bytes.auto.out c.in-Some-put-rest.ensures in
-    subst (λ (p : List ℕ). Wrote r c.args.out.now c.args.at p c.put-rest.new.out) (λ i. c.name.ensures i ++ rest (c.kinds.ensures i)) all
+    let all = wrote_then r c.args.out.now c.put_bytes.new.out c.put_rest.new.out c.name.result.now (rest c.kinds.result.now) c.args.at c.in-Some.next c.in-Some.ensures c.put_bytes.auto.out c.in-Some-put_rest.ensures in
+    subst (λ (p : List ℕ). Wrote r c.args.out.now c.args.at p c.put_rest.new.out) (λ i. c.name.ensures i ++ rest (c.kinds.ensures i)) all
 
-pub returns-in-None-put-rest : goal.returns-in-None-put-rest
-returns-in-None-put-rest c =
+pub returns-in-None-put_rest : goal.returns-in-None-put_rest
+returns-in-None-put_rest c =
     let rest : List Kind → List ℕ = λ ks. spaced ks c.args.values.now ++ 10 ∷ [] in
-    let all = wrote_then None c.args.out.now c.put-bytes.new.out c.put-rest.new.out c.name.result.now (rest c.kinds.result.now) c.args.at c.in-Some.next c.in-Some.ensures c.put-bytes.auto.out c.in-None-put-rest.ensures in
-    subst (λ (p : List ℕ). Wrote None c.args.out.now c.args.at p c.put-rest.new.out) (λ i. c.name.ensures i ++ rest (c.kinds.ensures i)) all
+    let all = wrote_then None c.args.out.now c.put_bytes.new.out c.put_rest.new.out c.name.result.now (rest c.kinds.result.now) c.args.at c.in-Some.next c.in-Some.ensures c.put_bytes.auto.out c.in-None-put_rest.ensures in
+    subst (λ (p : List ℕ). Wrote None c.args.out.now c.args.at p c.put_rest.new.out) (λ i. c.name.ensures i ++ rest (c.kinds.ensures i)) all

@@ -13,8 +13,8 @@ use Rattle.reader.proofs.cursor.Cursor.bodies.Goals as goal
 pub loop-i-init : goal.loop-i-init
 loop-i-init c = (built_start (length c.args.counts.now) c.args.counts.now (cursor_of c.args.self.now) _ _ refl refl, refl)
 
-pub overflow-add-size : goal.overflow-add-size
-overflow-add-size c =
+pub overflow_add-size : goal.overflow_add-size
+overflow_add-size c =
     let fit = total_room c.args.counts.now c.loop-i.i c.loop-i-test.true in
     record { fits = omega (arith, fit, c.loop-i.invariant.1, c.requires.small) }
 
@@ -23,10 +23,10 @@ body-requires c =
     let fit = total_room c.args.counts.now c.loop-i.i c.loop-i-test.true in
     record { room = omega (arith, fit, c.loop-i.invariant.1, c.requires.small, c.requires.room, c.loop-i.auto.row); few = c.requires.few }
 
-pub returns-in-err-last : goal.returns-in-err-last
-returns-in-err-last c =
-    let p = err_from_is_err_and c.from-residual.result c.from-residual.ensures.1 in
-    rw (p.1, p.2) (built_fault _ _ _ _ _ _ _ c.loop-i.invariant.0 c.loop-i-test.true _ c.in-err-last.ensures)
+pub returns-in_err-last : goal.returns-in_err-last
+returns-in_err-last c =
+    let p = err_from_is_err_and c.from_residual.result c.from_residual.ensures.1 in
+    rw (p.1, p.2) (built_fault _ _ _ _ _ _ _ c.loop-i.invariant.0 c.loop-i-test.true _ c.in_err-last.ensures)
 
 pub loop-i-preserved : goal.loop-i-preserved
 loop-i-preserved c =
@@ -35,8 +35,8 @@ loop-i-preserved c =
     let i = c.loop-i.i in
     let k = get_or ks i 0 in
     let size = c.loop-i.size in
-    let said = c.in-ok-last.ensures in
-    let b : BlockEnd = record { end = size + k; last = c.in-ok-last.last } in
+    let said = c.in_ok-last.ensures in
+    let b : BlockEnd = record { end = size + k; last = c.in_ok-last.last } in
     let row = c.body.new.row in
     let fit = total_room ks i c.loop-i-test.true in
     let old : length (take size c.loop-i.row) ≡ size =

@@ -4,7 +4,7 @@ use Rattle.reader.proofs.cursor.Cursor.body.Goals as goal
 
 pub returns-in-Ok : goal.returns-in-Ok
 returns-in-Ok c =
-    let front = c.in-ok-middles.ensures in
+    let front = c.in_ok-middles.ensures in
     let xs = front.0 in (
       xs,
       front.1,
@@ -14,5 +14,5 @@ returns-in-Ok c =
 
 pub returns-in-Err : goal.returns-in-Err
 returns-in-Err c =
-    let front = c.in-ok-middles.ensures in
+    let front = c.in_ok-middles.ensures in
     body_last_fault c.args.blocks c.args.count (cursor_of c.args.self.now) front.0 _ c.in-Err.fault front.2 c.in-Err.ensures

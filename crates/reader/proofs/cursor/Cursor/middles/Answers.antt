@@ -16,23 +16,23 @@ loop-i-init c =
       joins_start rest ∙ sym (ap (λ k. joins [] (middles c.args.blocks k (cursor_of c.args.self.now))) all),
     )
 
-pub returns-in-err-node : goal.returns-in-err-node
-returns-in-err-node c =
-    let p = err_from_is_err_and c.from-residual.result c.from-residual.ensures.1 in
+pub returns-in_err-node : goal.returns-in_err-node
+returns-in_err-node c =
+    let p = err_from_is_err_and c.from_residual.result c.from_residual.ensures.1 in
     let so = c.loop-i.invariant in
-    rw (p.1, p.2) (so.2 ∙ middles_fault c.args.blocks c.args.count c.loop-i.i (cursor_of c.loop-i.self) so.0 c.loop-i-test.true _ c.in-err-node.ensures)
+    rw (p.1, p.2) (so.2 ∙ middles_fault c.args.blocks c.args.count c.loop-i.i (cursor_of c.loop-i.self) so.0 c.loop-i-test.true _ c.in_err-node.ensures)
 
 pub loop-i-preserved : goal.loop-i-preserved
 loop-i-preserved c =
     let so = c.loop-i.invariant in
-    let m = c.in-ok-node.node in
+    let m = c.in_ok-node.node in
     let i = c.args.at + c.loop-i.i in
     let up : c.args.at + (c.loop-i.i + 1) ≡ i + 1 = omega arith in
     let inside : i < length c.loop-i.row = omega (arith, c.requires, c.loop-i.auto.row, c.loop-i-test.true) in (
       so.0 ++ m ∷ [],
       ap (λ n. take n (set c.loop-i.row i m)) up ∙ take_more_set c.loop-i.row i m inside ∙ ap (λ l. l ++ m ∷ []) so.1
           ∙ append_assoc (take c.args.at c.args.row.now) so.0 (m ∷ []),
-      so.2 ∙ middles_step c.args.blocks c.args.count c.loop-i.i (cursor_of c.loop-i.self) so.0 c.loop-i-test.true m _ c.in-ok-node.ensures,
+      so.2 ∙ middles_step c.args.blocks c.args.count c.loop-i.i (cursor_of c.loop-i.self) so.0 c.loop-i-test.true m _ c.in_ok-node.ensures,
     )
 
 pub returns : goal.returns

@@ -3,8 +3,8 @@ use Rattle.std.specs.Option.{option_map}
 use Rattle.words.proofs.Cuts.{cut_length}
 use Rattle.reader.proofs.cursor.Cursor.next_line.Goals as goal
 
-pub invariant-of-self : goal.invariant-of-self
-invariant-of-self c =
+pub invariant_of-self : goal.invariant_of-self
+invariant_of-self c =
     let self = c.args.self.now in
     let long = cut_length 10 self.rest.now c.cut.result.0.now (option_map (λ x. x.now) c.cut.result.1) c.in-Some.rest.now c.cut.ensures.front c.cut.ensures.back (ap (option_map (λ x. x.now)) c.in-Some.is) in
-    (omega (arith, long, self.small), (omega (arith, self.lines), tt))
+    record { small = omega (arith, long, self.small); lines = omega (arith, self.lines) }
