@@ -1,5 +1,5 @@
 -- The line that is due, when it is read and when it is written.
-use Rattle.std.proofs.Common.{◌≡◌, ℕ, ◌≤◌, true, List, [], ◌∷◌, ◌++◌, Some, None, Ok, Err, Option, Result, sym, refl, ap, ◌∙◌, arith}
+use Rattle.std.proofs.Common.{◌≡◌, ℕ, ◌≤◌, true, List, ◌∷◌, ◌++◌, Some, None, Ok, Err, Option, Result, ap, ◌∙◌, arith}
 use Rattle.script.specs.Limits.{most_blocks}
 use Rattle.words.specs.declared.flaw.Flaw.{Flaw}
 use Rattle.words.specs.Forms.{Row, line_as}
@@ -7,7 +7,6 @@ use Rattle.words.specs.Words.{cut}
 use Rattle.words.proofs.Cuts.{after, lacks, cut_glues, cut_after}
 use Rattle.words.proofs.Rows.{Each, line_is}
 use Rattle.reader.specs.declared.fault.Due.{Due}
-use Rattle.reader.specs.declared.fault.Fault.{Fault}
 use Rattle.reader.specs.Read.{Cursor, past, judged, ended_line, due}
 
 module _ {A : Type 0} (d : Due) (n : ℕ) where

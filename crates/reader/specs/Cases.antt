@@ -1,7 +1,7 @@
 -- Worked cases of reading, and the one statement that all of them stand. A bar stands for a line feed.
 use Rattle.std.specs.Prelude.{◌≡◌, ℕ, cond, List, [], ◌∷◌, negsuc, Ok, Err, codes, Result, ◌==◌}
 use Rattle.script.specs.Model.{blank}
-use Rattle.script.specs.Run.{Program, end_r0}
+use Rattle.script.specs.Run.{Program}
 use Rattle.script.specs.declared.node.Last.TheVariants.{If}
 use Rattle.script.specs.declared.node.Middle.TheVariants.{Set}
 use Rattle.words.specs.Forms.{register}

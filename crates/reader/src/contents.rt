@@ -1,7 +1,7 @@
 // Reads the contents lines.
 ghost use Rattle.std.specs.Prelude.{◌≡◌, ◌≤◌, length, take, Ok, Err};
 ghost use Rattle.reader.specs.Cursors.{cursor_of};
-ghost use Rattle.reader.specs.Read.{contents as contents-from};
+ghost use Rattle.reader.specs.Read.{contents as contents_from};
 ghost use Rattle.reader.specs.Totals.{total as total_of};
 ghost use Rattle.script.specs.Limits.{most_blocks, most_middles};
 
@@ -14,7 +14,7 @@ impl<'a> Cursor<'a> {
     pub(crate) fn contents(&mut self, n: u8, counts: &mut [usize]) -> Result<(), Fault>
         requires room { n ≤ length counts.old }
         requires few { n ≤ most_blocks }
-        ensures { elim result [ Ok _ ↦ (contents-from n 0 0 (cursor_of self.old) ≡ Ok (take n counts.new, cursor_of self.new)) × (total_of (take n counts.new) ≤ most_middles) | Err f ↦ contents-from n 0 0 (cursor_of self.old) ≡ Err f ] }
+        ensures { elim result [ Ok _ ↦ (contents_from n 0 0 (cursor_of self.old) ≡ Ok (take n counts.new, cursor_of self.new)) × (total_of (take n counts.new) ≤ most_middles) | Err f ↦ contents_from n 0 0 (cursor_of self.old) ≡ Err f ] }
     {
         let mut total: usize = 0;
         for i in 0..n {

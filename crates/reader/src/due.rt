@@ -1,7 +1,7 @@
 // Reads a text line by line.
 ghost use Rattle.std.specs.Prelude.{◌≡◌, ◌<◌, ◌≤◌, [], ◌∷◌, Some, None, Ok, Err};
 ghost use Rattle.reader.specs.Cursors.{cursor_of};
-ghost use Rattle.reader.specs.Read.{fault, past, due as due-line};
+ghost use Rattle.reader.specs.Read.{fault, past, due as due_line};
 ghost use Rattle.script.specs.Limits.{most_blocks};
 ghost use Rattle.words.specs.Forms.{header_row, contents_row, middle_rows, last_rows};
 ghost use Rattle.words.specs.Words.{cut as cut_at};
@@ -50,7 +50,7 @@ impl<'a> Cursor<'a> {
 
     // `blocks N`
     pub(crate) fn header(&mut self) -> Result<u8, Fault>
-        ensures reads { elim result [ Ok n ↦ due-line Due.Header 0 (header_row ∷ []) (cursor_of self.old) ≡ Ok (n, cursor_of self.new) | Err f ↦ due-line Due.Header 0 (header_row ∷ []) (cursor_of self.old) ≡ Err f ] }
+        ensures reads { elim result [ Ok n ↦ due_line Due.Header 0 (header_row ∷ []) (cursor_of self.old) ≡ Ok (n, cursor_of self.new) | Err f ↦ due_line Due.Header 0 (header_row ∷ []) (cursor_of self.old) ≡ Err f ] }
         ensures range { elim result [ Ok n ↦ (1 ≤ n) × (n ≤ most_blocks) | Err f ↦ Unit {0} ] }
     {
         let (line, place) = (self.line, self.place);
@@ -64,7 +64,7 @@ impl<'a> Cursor<'a> {
     // `bI C`
     pub(crate) fn count(&mut self, i: u8) -> Result<u32, Fault>
         requires { i < most_blocks }
-        ensures { elim result [ Ok n ↦ due-line Due.Count 0 (contents_row i ∷ []) (cursor_of self.old) ≡ Ok (n, cursor_of self.new) | Err f ↦ due-line Due.Count 0 (contents_row i ∷ []) (cursor_of self.old) ≡ Err f ] }
+        ensures { elim result [ Ok n ↦ due_line Due.Count 0 (contents_row i ∷ []) (cursor_of self.old) ≡ Ok (n, cursor_of self.new) | Err f ↦ due_line Due.Count 0 (contents_row i ∷ []) (cursor_of self.old) ≡ Err f ] }
     {
         let (line, place) = (self.line, self.place);
         let words = self.next_line(Due::Count)?;
@@ -76,7 +76,7 @@ impl<'a> Cursor<'a> {
 
     // A middle node.
     pub(crate) fn middle(&mut self, blocks: u8) -> Result<Middle, Fault>
-        ensures { elim result [ Ok n ↦ due-line Due.MiddleNode blocks middle_rows (cursor_of self.old) ≡ Ok (n, cursor_of self.new) | Err f ↦ due-line Due.MiddleNode blocks middle_rows (cursor_of self.old) ≡ Err f ] }
+        ensures { elim result [ Ok n ↦ due_line Due.MiddleNode blocks middle_rows (cursor_of self.old) ≡ Ok (n, cursor_of self.new) | Err f ↦ due_line Due.MiddleNode blocks middle_rows (cursor_of self.old) ≡ Err f ] }
     {
         let (line, place) = (self.line, self.place);
         let words = self.next_line(Due::MiddleNode)?;
@@ -88,7 +88,7 @@ impl<'a> Cursor<'a> {
 
     // A last node.
     pub(crate) fn last(&mut self, blocks: u8) -> Result<Last, Fault>
-        ensures { elim result [ Ok n ↦ due-line Due.LastNode blocks last_rows (cursor_of self.old) ≡ Ok (n, cursor_of self.new) | Err f ↦ due-line Due.LastNode blocks last_rows (cursor_of self.old) ≡ Err f ] }
+        ensures { elim result [ Ok n ↦ due_line Due.LastNode blocks last_rows (cursor_of self.old) ≡ Ok (n, cursor_of self.new) | Err f ↦ due_line Due.LastNode blocks last_rows (cursor_of self.old) ≡ Err f ] }
     {
         let (line, place) = (self.line, self.place);
         let words = self.next_line(Due::LastNode)?;

@@ -2,7 +2,7 @@
 ghost use Rattle.std.specs.Prelude.{◌≡◌, ◌<◌, ◌≤◌, true, length, take, Ok, Err, vec_capacity};
 ghost use Rattle.reader.specs.Cases.{AllStand};
 ghost use Rattle.reader.specs.Cursors.{cursor_of};
-ghost use Rattle.reader.specs.Read.{finished, read as read-text};
+ghost use Rattle.reader.specs.Read.{finished, read as read_text};
 ghost use Rattle.reader.specs.Reads.{Reads};
 ghost use Rattle.script.specs.Limits.{most_blocks, most_middles};
 ghost use Rattle.script.specs.Model.{blocks_from};
@@ -46,7 +46,7 @@ struct Sizes {
 fn parse(text: &[u8], row: &mut [Middle], ends: &mut [BlockEnd]) -> Result<Sizes, Fault>
     requires room { length row.old ≡ most_middles }
     requires space { length ends.old ≡ most_blocks }
-    ensures nodes { elim result [ Ok n ↦ (read-text text.now ≡ Ok (blocks_from (take n.middles row.new) 0 (take n.blocks ends.new))) × (ends_at 0 (take n.blocks ends.new) n.middles ≡ true) × (all_below n.blocks (take n.blocks ends.new) ≡ true) | Err f ↦ read-text text.now ≡ Err f ] }
+    ensures nodes { elim result [ Ok n ↦ (read_text text.now ≡ Ok (blocks_from (take n.middles row.new) 0 (take n.blocks ends.new))) × (ends_at 0 (take n.blocks ends.new) n.middles ≡ true) × (all_below n.blocks (take n.blocks ends.new) ≡ true) | Err f ↦ read_text text.now ≡ Err f ] }
     ensures sizes { elim result [ Ok n ↦ (0 < n.blocks) × (n.blocks ≤ most_blocks) × (n.middles ≤ most_middles) | Err _ ↦ Unit {0} ] }
 {
     let mut at = Cursor {

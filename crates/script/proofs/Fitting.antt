@@ -1,7 +1,7 @@
 -- Numbers of 32 bits: what arithmetic gives is one, and the numbers of a stored script are where those of its row of
 -- middle nodes are.
-use Rattle.std.proofs.Common.{ℕ, ◌-◌, Bool, true, false, List, [], ◌∷◌, take, drop, ℤ, lit<, w32, SFits}
-use Rattle.std.specs.List.{AllByRecursion as All}
+use Rattle.std.proofs.Common.{ℕ, ◌-◌, Bool, true, false, List, [], ◌∷◌, drop, ℤ, lit<, w32, SFits}
+use Rattle.std.specs.List.{AllByRecursion}
 use Rattle.std.proofs.ByRecursion.{All-take, All-drop}
 use Rattle.std.proofs.lemmas.Int.{SFits-int_wrap}
 use Rattle.script.specs.declared.node.Middle.{Middle}
@@ -25,6 +25,6 @@ computed_fits Rem a b = SFits-int_wrap w32 _
 computed_fits Lt a b = truth_fits _
 computed_fits Eq a b = truth_fits _
 
-pub blocks_fit : (ms : List Middle) (from : ℕ) (bs : List BlockEnd) → All Fit ms → Fits (blocks_from ms from bs)
+pub blocks_fit : (ms : List Middle) (from : ℕ) (bs : List BlockEnd) → AllByRecursion Fit ms → Fits (blocks_from ms from bs)
 blocks_fit ms from [] f = tt
 blocks_fit ms from (b ∷ bs) f = (All-take Fit (b.end - from) (drop from ms) (All-drop Fit from ms f), blocks_fit ms b.end bs f)

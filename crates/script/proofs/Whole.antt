@@ -1,5 +1,5 @@
 -- Quotients and remainders of whole numbers, wrapped to 32 bits.
-use Rattle.std.proofs.Common.{◌≡◌, ℕ, zero, suc, ◌+◌, ◌-◌, ◌*◌, ◌/◌, ◌%◌, ◌^◌, ◌<◌, ◌≤◌, Bool, true, false, cond, ℤ, pos, negsuc, ◌+ℤ◌, ◌-ℤ◌, ◌*ℤ◌, neg_ℤ, sym, refl, ap, ◌∙◌, mod-eq_of_lt, div-le_self, arith, w32, SFits, to_z, of_z, ne_eqb}
+use Rattle.std.proofs.Common.{◌≡◌, ℕ, zero, suc, ◌+◌, ◌/◌, ◌%◌, ◌^◌, ◌<◌, ◌≤◌, cond, ℤ, pos, negsuc, ◌-ℤ◌, ◌*ℤ◌, neg_ℤ, sym, refl, ap, ◌∙◌, mod-eq_of_lt, div-le_self, arith, w32, SFits, to_z, of_z, ne_eqb}
 use native.Mathlib.Nat.{div-add-mod}
 use lib.IntN.{*ℤ-negsuc, *ℤ-zero, zero-*ℤ, +ℤ_idr}
 use lib.Signed.{mag, quot_z, rem_z, mag_rem}

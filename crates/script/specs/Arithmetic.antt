@@ -5,7 +5,7 @@
 --   quotient a b      a by b, cut toward zero; 0 when b is 0
 --   truth t           1 for true, 0 for false
 --   computed o a b    what the operation o makes of a and b
-use Rattle.std.specs.Prelude.{Bool, true, false, cond, ℤ, pos, negsuc, ◌+ℤ◌, ◌-ℤ◌, ◌*ℤ◌, ◌==◌, int_div, int_lt}
+use Rattle.std.specs.Prelude.{Bool, false, cond, ℤ, pos, negsuc, ◌+ℤ◌, ◌-ℤ◌, ◌*ℤ◌, ◌==◌, int_div, int_lt}
 use Rattle.std.specs.Int.{int_wrap, w32}
 use Rattle.script.specs.declared.node.Operation.{Operation}
 use Rattle.script.specs.declared.node.Operation.TheVariants.{Add, Sub, Mul, Div, Rem, Lt, Eq}

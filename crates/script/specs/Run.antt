@@ -16,8 +16,7 @@
 use Rattle.std.specs.Prelude.{◌≡◌, ℕ, zero, suc, cond, List, [], ◌∷◌, ◌++◌, ℤ, pos, FitsSigned, ◌==◌}
 use Rattle.std.proofs.Common.{lit<}
 use Rattle.std.specs.Int.{w32}
-use Rattle.std.specs.List.{AllByRecursion as All}
-use Rattle.script.specs.declared.register.Register.{Register}
+use Rattle.std.specs.List.{AllByRecursion}
 use Rattle.script.specs.declared.node.Middle.{Middle}
 use Rattle.script.specs.declared.node.Middle.TheVariants.{Set, Mov, Compute, Get, Put}
 use Rattle.script.specs.declared.node.Last.{Last}
@@ -80,7 +79,7 @@ Fit (Get to slot) = Unit {0}
 Fit (Put from) = Unit {0}
 
 abbrev pub Fits : Program → Type 0
-Fits p = All (λ (k : Block). All Fit k.0) p
+Fits p = AllByRecursion (λ (k : Block). AllByRecursion Fit k.0) p
 
 -- `end r0`, the last node of a blank script
 abbrev pub end_r0 : Last

@@ -2,7 +2,7 @@
 //
 // The code's numbers have 32 bits by their type, and what a proof knows of a value by its type it knows where the code
 // looks at it. So these functions look at every node, and do nothing.
-ghost use Rattle.std.specs.List.{AllByRecursion as All};
+ghost use Rattle.std.specs.List.{AllByRecursion};
 ghost use Rattle.script.specs.Model.{program_of};
 ghost use Rattle.script.specs.Run.{Fit, Fits};
 
@@ -27,7 +27,7 @@ fn number_fits(node: Middle)
 }
 
 fn all_fit(nodes: &[Middle])
-    ensures { All Fit nodes.now }
+    ensures { AllByRecursion Fit nodes.now }
 {
     for node in nodes {
         number_fits(*node);

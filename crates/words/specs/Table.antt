@@ -3,7 +3,7 @@
 --   name_of v     the word that the line of the node v begins with
 --   kinds_of v    the kinds of the words that follow it
 --   verbs         all verbs, in the order of the table; place_of v is where v stands there
-use Rattle.std.specs.Prelude.{ℕ, List, [], ◌∷◌, map, length, codes, slice_index_or}
+use Rattle.std.specs.Prelude.{ℕ, List, [], ◌∷◌, map, codes, slice_index_or}
 use Rattle.words.specs.declared.kind.Kind.{Kind}
 use Rattle.words.specs.declared.kind.Kind.TheVariants.{RegisterWord, SlotWord, NumberWord, BlockWord}
 use Rattle.words.specs.declared.verb.Verb.{Verb}

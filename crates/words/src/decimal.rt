@@ -1,11 +1,11 @@
 // Writes numbers in base ten into lent bytes.
-ghost use Rattle.std.specs.Prelude.{◌≡◌, ◌-◌, ◌≤◌, ◌++◌, length, take, drop, decimal as decimal-of};
-ghost use Rattle.std.specs.Fmt.{signed_decimal as Signed-of};
+ghost use Rattle.std.specs.Prelude.{◌≡◌, ◌-◌, ◌≤◌, ◌++◌, length, take, drop, decimal as decimal_of};
+ghost use Rattle.std.specs.Fmt.{signed_decimal as signed_of};
 ghost use Rattle.words.specs.Placed.{Placed};
 
 // How many digits a number has.
 fn digit_count(n: u32) -> usize
-    ensures { result ≡ length (decimal-of n) }
+    ensures { result ≡ length (decimal_of n) }
 {
     let mut len = 1;
     let mut rest = n;
@@ -19,8 +19,8 @@ fn digit_count(n: u32) -> usize
 // Writes the digits so that they end at `end`.
 fn put_digits(out: &mut [u8], end: usize, n: u32)
     requires within { end ≤ length out.old }
-    requires room { length (decimal-of n) ≤ end }
-    ensures { out.new ≡ take (end - length (decimal-of n)) out.old ++ (decimal-of n ++ drop end out.old) }
+    requires room { length (decimal_of n) ≤ end }
+    ensures { out.new ≡ take (end - length (decimal_of n)) out.old ++ (decimal_of n ++ drop end out.old) }
 {
     let mut at = end;
     let mut rest = n;
@@ -36,7 +36,7 @@ fn put_digits(out: &mut [u8], end: usize, n: u32)
 // Writes a number from a place that is not past the end.
 fn put_inside(out: &mut [u8], at: usize, value: i32) -> Option<usize>
     requires { at ≤ length out.old }
-    ensures { Placed result out.old at (Signed-of value) out.new }
+    ensures { Placed result out.old at (signed_of value) out.new }
 {
     let size = value.unsigned_abs();
     let digits = digit_count(size);
@@ -60,7 +60,7 @@ fn put_inside(out: &mut [u8], at: usize, value: i32) -> Option<usize>
 
 // Writes a number from `at` on and answers the place after it, or leaves all bytes as they were where it does not fit.
 pub fn put_number(out: &mut [u8], at: usize, value: i32) -> Option<usize>
-    ensures { Placed result out.old at (Signed-of value) out.new }
+    ensures { Placed result out.old at (signed_of value) out.new }
 {
     if at > out.len() {
         None

@@ -2,7 +2,7 @@
 ghost use Rattle.std.specs.Prelude.{◌≡◌};
 ghost use Rattle.script.specs.Limits.{registers};
 ghost use Rattle.words.specs.Numbers.{lettered_word};
-ghost use Rattle.words.specs.Words.{checked, from_to, operand as operand-of};
+ghost use Rattle.words.specs.Words.{checked, from_to, operand as operand_of};
 
 use super::flaw::Flaw;
 use super::kind::Kind;
@@ -31,7 +31,7 @@ fn block(word: &[u8], blocks: u8) -> Result<i32, Flaw>
 
 // The number of a word of this kind, in a script of so many blocks.
 pub fn operand(kind: Kind, blocks: u8, word: &[u8]) -> Result<i32, Flaw>
-    ensures { result ≡ operand-of blocks kind word.now }
+    ensures { result ≡ operand_of blocks kind word.now }
 {
     match kind {
         Kind::RegisterWord => register(word),

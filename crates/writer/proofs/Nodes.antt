@@ -1,9 +1,8 @@
 -- Each form of the table, read and written.
-use Rattle.std.proofs.Common.{◌≡◌, ℕ, zero, suc, ◌+◌, ◌%◌, ◌^◌, ◌<◌, ◌≤◌, Bool, true, false, cond, not, ◌&&◌, ltb, List, [], ◌∷◌, ◌++◌, length, ℤ, pos, negsuc, nat_abs, Some, None, Ok, Err, decimal, sym, refl, ap, ◌∙◌, mod-eq_of_lt, arith, w32, SFits}
+use Rattle.std.proofs.Common.{◌≡◌, ℕ, ◌+◌, ◌%◌, ◌^◌, ◌<◌, ◌≤◌, true, cond, List, [], ◌∷◌, length, ℤ, pos, negsuc, nat_abs, Some, None, Ok, decimal, sym, refl, ap, ◌∙◌, mod-eq_of_lt, arith, w32, SFits}
 use Rattle.std.proofs.lemmas.Bool.{lt-ltb, le-ltb, not_from_false, and_from}
 use Rattle.std.proofs.lemmas.Fmt.{length-decimal-le}
 use Rattle.std.proofs.lemmas.Slice.Eq.{bytes_eq-Decides}
-use Rattle.std.specs.Str.{bytes_eq}
 use Rattle.script.proofs.Same.{same_register, same_slot}
 use Rattle.script.specs.declared.register.Register.{Register}
 use Rattle.script.specs.declared.register.Slot.{Slot}
@@ -19,7 +18,7 @@ use Rattle.words.specs.Words.{from_to, word32, within}
 use Rattle.words.specs.Forms.{Row, register, slot, header_row, contents_row, set_row, mov_row, compute_row, get_row, put_row, go_row, if_row, end_row, middle_rows, last_rows, seek, line_as, row_text}
 use Rattle.writer.specs.Text.{middle_text, last_text, header_text, count_text}
 use Rattle.script.specs.Run.{Fit as FitNumber}
-use Rattle.script.specs.Limits.{registers, slots, most_blocks, most_middles}
+use Rattle.script.specs.Limits.{registers, most_blocks, most_middles}
 use Rattle.writer.proofs.Formed.{Below}
 use Rattle.words.proofs.Cuts.{lacks}
 use Rattle.words.proofs.Spelt.{from_to_pos, lacks_decimal}

@@ -1,8 +1,7 @@
 -- Whole texts: what is read is what is written, and what is written is read.
-use Rattle.std.proofs.Common.{◌≡◌, ℕ, zero, suc, ◌+◌, ◌*◌, ◌<◌, ◌≤◌, Bool, true, false, cond, leb, List, [], ◌∷◌, ◌++◌, length, Ok, Err, Result, sym, refl, ap, ◌∙◌, arith, length-append}
+use Rattle.std.proofs.Common.{◌≡◌, ℕ, zero, suc, ◌+◌, ◌*◌, ◌≤◌, Bool, true, false, cond, leb, List, [], ◌∷◌, length, Ok, Err, Result, sym, refl, ap, ◌∙◌, arith, length-append}
 use Rattle.std.proofs.lemmas.Bool.{le-leb}
 use Rattle.script.specs.declared.node.Middle.{Middle}
-use Rattle.script.specs.declared.node.Last.{Last}
 use Rattle.script.specs.Run.{Block, Program}
 use Rattle.reader.specs.declared.fault.Fault.{Fault}
 use Rattle.reader.specs.declared.fault.Due.TheVariants.{Header, Count, MiddleNode, LastNode}
@@ -11,12 +10,12 @@ use Rattle.reader.specs.declared.fault.Question.TheVariants.{Total}
 use Rattle.words.specs.Forms.{Row, header_row, contents_row, middle_rows, last_rows}
 use Rattle.reader.specs.Read.{Cursor, start, past, fault, Step, then, due, contents, middles, body, bodies, finished, read}
 use Rattle.writer.specs.Text.{middle_text, last_text, line, header_text, count_text, counts_text, middles_text, bodies_text, counts, text}
-use Rattle.std.specs.List.{AllByRecursion as All}
+use Rattle.std.specs.List.{AllByRecursion}
 use Rattle.script.specs.Limits.{most_blocks, most_middles, most_bytes}
 use Rattle.script.specs.Model.{middle_count}
 use Rattle.script.specs.Run.{Fit, Fits}
 use Rattle.reader.specs.Totals.{total}
-use Rattle.writer.proofs.Formed.{Below, EachBelow, WellFormed}
+use Rattle.writer.proofs.Formed.{EachBelow, WellFormed}
 use Rattle.reader.proofs.Dues.{due_is, due_written}
 use Rattle.writer.proofs.Nodes.{WrittenAs, Header as SaidHeader, Line, middle_each, last_each, count_each, header_each, middle_line, last_line, header_line, count_line}
 
@@ -147,7 +146,7 @@ contents_reads (k ∷ ks) i sum f s c rest e =
     }
 
 module _ (n : ℕ) (b : n ≤ most_blocks) where
-  middles_read : (ms : List Middle) → All Fit ms → (c : Cursor) (rest : List ℕ) → c.rest ≡ middles_text ms rest → Reads (middles n (length ms) c) ms rest
+  middles_read : (ms : List Middle) → AllByRecursion Fit ms → (c : Cursor) (rest : List ℕ) → c.rest ≡ middles_text ms rest → Reads (middles n (length ms) c) ms rest
   middles_read [] f c rest e = record { next = c; reads = refl; on = e }
   middles_read (m ∷ ms) f c rest e =
       let here = line_reads MiddleNode n middle_rows 19 (middle_text m) m (middle_line n b m f.0) c (middles_text ms rest) e in
@@ -198,7 +197,7 @@ counts_short (k ∷ ks) i f s rest =
     omega (arith, line_short 0 (contents_row i ∷ []) (count_text i k) k (count_line i k (omega arith) (omega arith)) (counts_text (suc i) ks rest), counts_short ks (suc i) (omega arith) (omega arith) rest)
 
 module _ (n : ℕ) (b : n ≤ most_blocks) where
-  middles_short : (ms : List Middle) → All Fit ms → (rest : List ℕ) → length (middles_text ms rest) ≤ 20 * length ms + length rest
+  middles_short : (ms : List Middle) → AllByRecursion Fit ms → (rest : List ℕ) → length (middles_text ms rest) ≤ 20 * length ms + length rest
   middles_short [] f rest = omega arith
   middles_short (m ∷ ms) f rest = omega (arith, line_short n middle_rows (middle_text m) m (middle_line n b m f.0) (middles_text ms rest), middles_short ms f.1 rest)
 

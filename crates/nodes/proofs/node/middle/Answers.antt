@@ -1,4 +1,4 @@
-use Rattle.std.proofs.Common.{◌≡◌, length, take, Some, None, Ok, Err, sym, ap, ◌∙◌, rules}
+use Rattle.std.proofs.Common.{◌≡◌, length, take, Some, Ok, Err, sym, ap, ◌∙◌, rules}
 use Rattle.words.specs.Forms.{middle_rows, seek}
 use Rattle.words.specs.Table.{kinds_of}
 use Rattle.words.specs.Words.{cut, operands}

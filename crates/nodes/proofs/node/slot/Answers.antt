@@ -1,4 +1,4 @@
-use Rattle.std.proofs.Common.{◌≡◌, ℕ, ◌%◌, nat_abs, ap, ◌∙◌, w32}
+use Rattle.std.proofs.Common.{ℕ, ◌%◌, nat_abs, ap, ◌∙◌, w32}
 use Rattle.std.proofs.lemmas.Int.{to_z-of_z}
 use Rattle.script.proofs.Same.{same_slot}
 use Rattle.script.specs.Limits.{slots}

@@ -2,10 +2,9 @@ use Rattle.std.proofs.Common.{◌≡◌, [], ◌∷◌, negsuc, refl, ap, lit<}
 use Rattle.std.specs.Fmt.{digits}
 use Rattle.script.specs.declared.node.Last.TheVariants.{If, End}
 use Rattle.script.specs.declared.node.Middle.TheVariants.{Set}
-use Rattle.script.specs.declared.register.Register.{Register}
 use Rattle.script.proofs.Same.{same_register}
 use Rattle.words.specs.Forms.{register}
-use Rattle.reader.specs.Cases.{Outcome, script}
+use Rattle.reader.specs.Cases.{script}
 use Rattle.reader.proofs.whole.cases_stand.Goals as goal
 
 r0 : register 0 ≡ record { index = 0; ok = lit< tt }

@@ -1,5 +1,5 @@
 use Rattle.std.proofs.Common.{List, subst, arith}
-use Rattle.std.specs.List.{AllByRecursion as All}
+use Rattle.std.specs.List.{AllByRecursion}
 use Rattle.std.proofs.ByRecursion.{All-more}
 use Rattle.std.proofs.lemmas.List.{take_all}
 use Rattle.script.specs.declared.node.Middle.{Middle}
@@ -12,4 +12,4 @@ loop-node-preserved c =
     (subst (λ (m : Middle). Fit m) c.node-item.is c.number_fits.ensures)
 
 pub returns : goal.returns
-returns c = subst (λ (ms : List Middle). All Fit ms) (take_all c.loop-node.node-index c.args.nodes.now (omega arith)) c.loop-node.invariant
+returns c = subst (λ (ms : List Middle). AllByRecursion Fit ms) (take_all c.loop-node.node-index c.args.nodes.now (omega arith)) c.loop-node.invariant

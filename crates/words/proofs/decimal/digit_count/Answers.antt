@@ -1,4 +1,4 @@
-use Rattle.std.proofs.Common.{length, arith}
+use Rattle.std.proofs.Common.{arith}
 use Rattle.std.proofs.lemmas.Fmt.{length-decimal-le}
 use Rattle.words.proofs.Steps.{length_one, length_step}
 use Rattle.words.proofs.decimal.digit_count.Goals as goal

@@ -1,4 +1,4 @@
-use Rattle.std.proofs.Common.{length, arith, rules}
+use Rattle.std.proofs.Common.{arith}
 use Rattle.words.proofs.Steps.{start, some_left, in_range, step, done}
 use Rattle.words.proofs.decimal.put_digits.Goals as goal
 

@@ -1,4 +1,4 @@
-use Rattle.std.proofs.Common.{length, pos, nat_abs, sym, refl, ap, ◌∙◌, arith, w32, rules}
+use Rattle.std.proofs.Common.{pos, nat_abs, sym, refl, ap, ◌∙◌, arith, w32}
 use lib.Signed.{lt_z}
 use Rattle.std.proofs.lemmas.Int.{to_z-of_z}
 use Rattle.std.proofs.lemmas.Fmt.{length-decimal-le}

@@ -1,4 +1,4 @@
-use Rattle.std.proofs.Common.{◌≡◌, ℕ, ◌+◌, Bool, true, false, List, [], ◌∷◌, length, get_or, take, drop, set, Ok, Err, sym, refl, ap, ◌∙◌, append-nil, arith, length-set, w32, rules}
+use Rattle.std.proofs.Common.{◌≡◌, ◌+◌, length, get_or, take, drop, set, Ok, Err, sym, ap, ◌∙◌, append-nil, arith, length-set, w32}
 use Rattle.std.proofs.lemmas.Int.{to_z-of_z}
 use Rattle.std.specs.Option.{option_map}
 use Rattle.std.proofs.lemmas.List.{take_more_set}

@@ -1,4 +1,4 @@
-use Rattle.std.proofs.Common.{◌≡◌, ◌≤◌, length, take, drop}
+use Rattle.std.proofs.Common.{◌≡◌, length, take, drop}
 use Rattle.std.specs.Option.{option_map}
 use Rattle.words.specs.Words.{operands}
 use Rattle.words.proofs.Values.{onto}

@@ -1,4 +1,4 @@
-use Rattle.std.proofs.Common.{◌≡◌, ◌+◌, [], ◌∷◌, ◌++◌, length, drop, ap, ◌∙◌, arith}
+use Rattle.std.proofs.Common.{◌+◌, [], ◌∷◌, ◌++◌, drop, arith}
 use Rattle.script.specs.Model.{program_of}
 use Rattle.script.specs.Run.{Block}
 use Rattle.writer.specs.Text.{middles_text, last_text, bodies_text}

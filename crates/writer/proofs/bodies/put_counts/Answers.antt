@@ -1,4 +1,4 @@
-use Rattle.std.proofs.Common.{◌≡◌, ◌+◌, [], ◌∷◌, ◌++◌, length, drop, vec_items, ap, ◌∙◌, arith}
+use Rattle.std.proofs.Common.{◌+◌, [], ◌∷◌, ◌++◌, length, drop, vec_items, arith}
 use Rattle.script.specs.Model.{program_of}
 use Rattle.script.specs.Run.{Block}
 use Rattle.script.proofs.Blocks.{blocks_many, middles_counted}

@@ -1,4 +1,4 @@
-use Rattle.std.proofs.Common.{◌+◌, List, [], ◌∷◌, ◌++◌, length, get_or, drop}
+use Rattle.std.proofs.Common.{◌+◌, [], ◌∷◌, ◌++◌, drop}
 use Rattle.writer.specs.Text.{middle_text, middles_text}
 use Rattle.writer.proofs.Puts.{sofar_more, sofar_none, sofar_all}
 use Rattle.writer.proofs.Texts.{middles_step, middles_end}

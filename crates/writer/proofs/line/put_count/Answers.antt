@@ -1,4 +1,4 @@
-use Rattle.std.proofs.Common.{◌≡◌, ℕ, List, [], ◌∷◌, ◌++◌, pos, Some, decimal, sym, subst, append_assoc, length-append, rules}
+use Rattle.std.proofs.Common.{ℕ, List, [], ◌∷◌, ◌++◌, pos, Some, decimal, sym, subst, append_assoc, length-append, rules}
 use Rattle.words.specs.declared.kind.Kind.TheVariants.{CountWord}
 use Rattle.writer.specs.Wrote.{Wrote}
 use Rattle.words.specs.Words.{spaced}

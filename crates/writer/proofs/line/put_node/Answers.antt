@@ -1,9 +1,8 @@
-use Rattle.std.proofs.Common.{ℕ, List, [], ◌∷◌, ◌++◌, Some, None, Option, subst}
+use Rattle.std.proofs.Common.{ℕ, List, [], ◌∷◌, ◌++◌, Some, None, subst}
 use Rattle.words.specs.declared.kind.Kind.{Kind}
-use Rattle.words.specs.Table.{name_of, kinds_of}
 use Rattle.words.specs.Words.{spaced}
 use Rattle.writer.specs.Wrote.{Wrote}
-use Rattle.writer.proofs.Puts.{wrote_then, wrote_none}
+use Rattle.writer.proofs.Puts.{wrote_then}
 use Rattle.writer.proofs.line.put_node.Goals as goal
 
 pub returns-in-Some-put_rest : goal.returns-in-Some-put_rest

@@ -1,5 +1,4 @@
-use Rattle.std.proofs.Common.{◌≡◌, [], ◌∷◌, ℤ, Some, subst, w32, to_z, of_z}
-use Rattle.std.specs.Fmt.{signed_decimal}
+use Rattle.std.proofs.Common.{[], ◌∷◌, ℤ, Some, subst, w32, to_z, of_z}
 use Rattle.std.proofs.lemmas.Int.{to_z-of_z}
 use Rattle.writer.specs.Wrote.{Wrote}
 use Rattle.words.specs.Words.{spell}

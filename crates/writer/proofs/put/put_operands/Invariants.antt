@@ -1,4 +1,4 @@
-use Rattle.std.proofs.Common.{◌≡◌, ◌+◌, ◌≤◌, List, ◌++◌, length, take, drop, Some}
+use Rattle.std.proofs.Common.{drop}
 use Rattle.words.specs.Words.{spaced}
 use Rattle.writer.proofs.Puts.{Sofar}
 use Rattle.writer.proofs.put.put_operands.Given as goal

@@ -1,4 +1,4 @@
-use Rattle.std.proofs.Common.{◌≡◌, drop, ℤ, Some, subst, w32, to_z, of_z}
+use Rattle.std.proofs.Common.{drop, ℤ, Some, subst, w32, to_z, of_z}
 use Rattle.std.specs.Fmt.{signed_decimal}
 use Rattle.std.proofs.lemmas.Int.{to_z-of_z}
 use Rattle.writer.specs.Wrote.{Wrote}

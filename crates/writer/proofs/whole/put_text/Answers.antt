@@ -1,7 +1,7 @@
-use Rattle.std.proofs.Common.{◌≡◌, ℕ, List, [], ◌∷◌, ◌++◌, length, Some, None, vec_items, sym, refl, ap, ◌∙◌, subst, arith}
+use Rattle.std.proofs.Common.{◌≡◌, ℕ, List, [], ◌∷◌, ◌++◌, length, Some, None, vec_items, sym, subst, arith}
 use Rattle.script.specs.Model.{program_of}
 use Rattle.writer.specs.Wrote.{Wrote}
-use Rattle.writer.specs.Text.{header_text, counts_text, counts, bodies_text, text}
+use Rattle.writer.specs.Text.{header_text, counts_text, counts, bodies_text}
 use Rattle.writer.proofs.Puts.{wrote_then, wrote_none}
 use Rattle.script.proofs.Blocks.{blocks_many}
 use Rattle.writer.proofs.Texts.{text_splits}

@@ -1,5 +1,5 @@
 use Rattle.reader.specs.Cursors.{cursor_of}
-use Rattle.reader.proofs.Builds.{body_fault, body_read, body_last_fault, due_targets}
+use Rattle.reader.proofs.Builds.{body_read, body_last_fault, due_targets}
 use Rattle.reader.proofs.cursor.Cursor.body.Goals as goal
 
 pub returns-in-Ok : goal.returns-in-Ok

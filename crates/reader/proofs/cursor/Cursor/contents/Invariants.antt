@@ -1,4 +1,4 @@
-use Rattle.std.proofs.Common.{◌≡◌, ◌-◌, ◌≤◌, length, take}
+use Rattle.std.proofs.Common.{◌≡◌, ◌-◌, ◌≤◌, take}
 use Rattle.reader.specs.Cursors.{cursor_of}
 use Rattle.script.specs.Limits.{most_middles}
 use Rattle.reader.specs.Totals.{total}

@@ -1,4 +1,4 @@
-use Rattle.std.proofs.Common.{◌≡◌, ap, arith}
+use Rattle.std.proofs.Common.{ap, arith}
 use Rattle.std.specs.Option.{option_map}
 use Rattle.words.proofs.Cuts.{cut_length}
 use Rattle.reader.proofs.cursor.Cursor.next_line.Goals as goal

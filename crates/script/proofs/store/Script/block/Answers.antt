@@ -1,4 +1,4 @@
-use Rattle.std.proofs.Common.{◌≡◌, ◌-◌, ◌<◌, ◌≤◌, length, get_or, take, drop, Some, vec_items, sym, ap, ◌∙◌, arith}
+use Rattle.std.proofs.Common.{◌-◌, ◌<◌, ◌≤◌, length, get_or, take, drop, Some, vec_items, sym, ap, ◌∙◌, arith}
 use Rattle.script.proofs.Blocks.{bounds, found_at, missing_at}
 use Rattle.script.proofs.store.Script.block.Goals as goal
 

@@ -1,4 +1,4 @@
-use Rattle.std.proofs.Common.{◌≡◌, [], ◌∷◌, ◌++◌, vec_items, ap, ◌∙◌}
+use Rattle.std.proofs.Common.{◌≡◌, [], ◌∷◌, ◌++◌, vec_items, ◌∙◌}
 use Rattle.script.specs.Model.{blocks_from, blank_end}
 use Rattle.script.proofs.store.Script.new.Goals as goal
 
