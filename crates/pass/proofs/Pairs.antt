@@ -1,4 +1,5 @@
--- The laws of two passes are the laws of the pair. Those of their lattices are in specs/PairLaws.antt, since `Pair` gives them in src/.
+-- The laws of two passes are the laws of the pair. Those of their lattices are in specs/PairLaws.antt, since `Pair` gives
+-- them in src/.
 use Rattle.std.proofs.Common.{◌≡◌, List, Some, None, Option}
 use Rattle.std.specs.Option.{option_or}
 use Rattle.script.specs.declared.node.Middle.{Middle}

@@ -1,4 +1,5 @@
--- The laws of the lattice of constants. They are proofs, and stand here because the impl in src/ gives them as its `lawful`.
+-- The laws of the lattice of constants. They are proofs, and stand here because the impl in src/ gives them as its
+-- `lawful`.
 use Rattle.std.specs.Prelude.{◌≡◌, ℕ, ◌<◌, Bool, true, false, cond, not, length, ℤ, pos, negsuc, is_some, Some, None, Option, FitsSigned, refl}
 use Rattle.std.proofs.Common.{sym, ap, subst, ◌∙◌, arith, lit<}
 use Rattle.std.specs.Int.{w32}

@@ -1,4 +1,5 @@
--- The laws of the lattice of copies. They are proofs, and stand here because the impl in src/ gives them as its `lawful`.
+-- The laws of the lattice of copies. They are proofs, and stand here because the impl in src/ gives them as its
+-- `lawful`.
 use Rattle.std.specs.Prelude.{◌≡◌, ℕ, ◌<◌, Bool, true, false, not, ◌&&◌, length, is_some, None, nat_eq, refl}
 use Rattle.std.proofs.Common.{sym, ap, subst, ◌∙◌, arith}
 use Rattle.std.proofs.lemmas.Bool.{eqb-true, and_parts, and_from, not-true, cond-true}
