@@ -1,4 +1,5 @@
--- The laws of the lattice of marks.
+-- The laws of the lattice of marks. They are proofs, and stand here because the impl in src/ gives them as its
+-- `lawful`.
 use Rattle.std.specs.Prelude.{◌≡◌, ℕ, ◌<◌, Bool, true, false, not, ◌&&◌, length, refl}
 use Rattle.std.proofs.Common.{sym, ◌∙◌, arith}
 use Rattle.std.proofs.lemmas.Bool.{both_ways, and_parts, and_right, not-true}

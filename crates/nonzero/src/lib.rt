@@ -4,7 +4,7 @@
 #![tactic(auto)]
 
 ghost use Rattle.std.specs.Prelude.{◌≡◌};
-ghost use Rattle.nonzero.specs.Marks.{Valid, Cautious, Admits, how_many, nothing, knows, marked, meet, after as after-marks, along as along-marks, in_place, in_place_last};
+ghost use Rattle.nonzero.specs.Marks.{Valid, Cautious, Admits, how_many, nothing, knows, marked, meet, after as after_marks, along as along_marks, in_place, in_place_last};
 ghost use Rattle.nonzero.specs.Joins;
 
 use pass::edge::Edge;
@@ -55,7 +55,7 @@ impl Lattice for NonZero {
 
     ghost joined = { λ _. meet };
 
-    ghost lawful = { λ p. Joins.lattice };
+    ghost lawful = { λ _. Joins.lattice };
 
     fn start(&self) -> Marks {
         Marks {
@@ -77,9 +77,9 @@ impl Lattice for NonZero {
 impl ForwardPass for NonZero {
     ghost admits = { λ _. Admits };
 
-    ghost follows = { λ _. after-marks };
+    ghost follows = { λ _. after_marks };
 
-    ghost crosses = { λ _. along-marks };
+    ghost crosses = { λ _. along_marks };
 
     ghost middle = { λ _. in_place };
 

@@ -7,7 +7,7 @@
 -- Files and slots hold numbers of 32 bits, nodes set numbers of 32 bits, and facts are facts of the lattice: of
 -- anything else nothing is asked.
 use Rattle.std.specs.Prelude.{◌≡◌, ℕ, ◌≤◌, List, [], length, Some, Option}
-use Rattle.std.specs.List.{AllByRecursion as All}
+use Rattle.std.specs.List.{AllByRecursion}
 use Rattle.script.specs.declared.node.Middle.{Middle}
 use Rattle.script.specs.declared.node.Last.{Last}
 use Rattle.script.specs.Run.{File, Words, Fit, zeros, step, puts, through, leaves}
@@ -17,14 +17,14 @@ use Rattle.pass.specs.Edges.{leads, Takes, Names}
 
 pub record MiddleAgrees (m : Middle) (ms : List Middle) (admitted : File → Type 0) : Type 0 where
   pub few : length ms ≤ 4
-  pub fit : All Fit ms
+  pub fit : AllByRecursion Fit ms
   pub put : (slots e : File) → Words slots → Words e → admitted e → (through slots ms e).0 ≡ puts m e
   pub registers : (slots e : File) → Words slots → Words e → admitted e → (through slots ms e).1 ≡ step slots m e
 
 -- A last node puts nothing and leaves the registers as they are, and so must what stands in its place.
 pub record LastAgrees (n : Last) (ms : List Middle) (k : Last) (admitted : File → Type 0) : Type 0 where
   pub few : length ms ≤ 4
-  pub fit : All Fit ms
+  pub fit : AllByRecursion Fit ms
   pub named : (b : ℕ) → Names k b → Names n b
   pub put : (slots e : File) → Words slots → Words e → admitted e → (through slots ms e).0 ≡ []
   pub registers : (slots e : File) → Words slots → Words e → admitted e → (through slots ms e).1 ≡ e

@@ -3,6 +3,7 @@ pub mod Edges
 pub mod Forward
 pub mod Lattices
 pub mod Lawful
+pub mod PairLaws
 pub mod Pairs
 pub mod Pieces
 pub mod Rows

@@ -1,6 +1,6 @@
 -- What two passes mean and answer as one.
 --
---   orOther a b          the first, and only where there is none the second (of the library)
+--   option_or a b        the first, and only where there is none the second (of the library)
 --   paired_lattice l m   the lattice of pairs of facts, the first of l and the second of m
 --   paired_pass w v      the forward pass over them
 use Rattle.std.specs.Prelude.{◌+◌, ◌||◌}

@@ -1,7 +1,7 @@
 // Proposals in place of a last node.
 ghost use Rattle.std.specs.Prelude.{◌≡◌, [], replicate, Some, None};
 ghost use Rattle.script.specs.declared.node.Last.TheVariants.{Go};
-ghost use Rattle.pass.specs.Pieces.{last_piece, unused as unused-node};
+ghost use Rattle.pass.specs.Pieces.{last_piece, unused as unused_node};
 
 use crate::middles::unused;
 use crate::piece::LastPiece;
@@ -11,7 +11,7 @@ impl LastPiece {
     // No piece.
     pub fn none() -> LastPiece
         ensures piece { last_piece result ≡ None }
-        ensures unread { (result.count ≡ 0) × ((result.middles ≡ replicate 4 unused-node) × (result.last ≡ Go 0)) }
+        ensures unread { (result.count ≡ 0) × ((result.middles ≡ replicate 4 unused_node) × (result.last ≡ Go 0)) }
     {
         LastPiece {
             proposed: false,
@@ -24,7 +24,7 @@ impl LastPiece {
     // The piece that is this last node alone.
     pub fn only(node: Last) -> LastPiece
         ensures piece { last_piece result ≡ Some ([], node) }
-        ensures unread { result.middles ≡ replicate 4 unused-node }
+        ensures unread { result.middles ≡ replicate 4 unused_node }
     {
         LastPiece {
             proposed: true,

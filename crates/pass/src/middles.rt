@@ -1,6 +1,6 @@
 // Proposals in place of a middle node.
 ghost use Rattle.std.specs.Prelude.{◌≡◌, [], ◌∷◌, replicate, Some, None};
-ghost use Rattle.pass.specs.Pieces.{middle_piece, unused as unused-node};
+ghost use Rattle.pass.specs.Pieces.{middle_piece, unused as unused_node};
 
 use crate::piece::MiddlePiece;
 use script::node::Middle;
@@ -8,7 +8,7 @@ use script::register::Register;
 
 // What stands in a piece past its count.
 pub fn unused() -> Middle
-    ensures { result ≡ unused-node }
+    ensures { result ≡ unused_node }
 {
     Middle::Put {
         from: Register { index: 0 },
@@ -19,7 +19,7 @@ impl MiddlePiece {
     // No piece.
     pub fn none() -> MiddlePiece
         ensures piece { middle_piece result ≡ None }
-        ensures unread { (result.count ≡ 0) × (result.middles ≡ replicate 4 unused-node) }
+        ensures unread { (result.count ≡ 0) × (result.middles ≡ replicate 4 unused_node) }
     {
         MiddlePiece {
             proposed: false,

@@ -1,5 +1,6 @@
 // Two passes as one. A pair is again a pass, so pairs nest to any depth.
 ghost use Rattle.pass.specs.Pairs.{paired_lattice, paired_pass};
+ghost use Rattle.pass.specs.PairLaws.{both_lattice};
 
 use crate::edge::Edge;
 use crate::forward::ForwardPass;
@@ -26,6 +27,8 @@ impl<A: Lattice, B: Lattice> Lattice for Pair<A, B> {
 
     ghost joined = { (paired_lattice A.Lattice B.Lattice).joined };
 
+    ghost lawful = { λ p. both_lattice A.Lattice.own B.Lattice.own p (A.lawful p.first) (B.lawful p.second) };
+
     fn start(&self) -> (A::Fact, B::Fact) {
         (self.first.start(), self.second.start())
     }
@@ -38,15 +41,15 @@ impl<A: Lattice, B: Lattice> Lattice for Pair<A, B> {
 }
 
 impl<A: ForwardPass, B: ForwardPass> ForwardPass for Pair<A, B> {
-    ghost admits = { (paired_pass A.ForwardPass B.ForwardPass).admits };
+    ghost admits = { (paired_pass A.ForwardPass.own B.ForwardPass.own).admits };
 
-    ghost follows = { (paired_pass A.ForwardPass B.ForwardPass).follows };
+    ghost follows = { (paired_pass A.ForwardPass.own B.ForwardPass.own).follows };
 
-    ghost crosses = { (paired_pass A.ForwardPass B.ForwardPass).crosses };
+    ghost crosses = { (paired_pass A.ForwardPass.own B.ForwardPass.own).crosses };
 
-    ghost middle = { (paired_pass A.ForwardPass B.ForwardPass).middle };
+    ghost middle = { (paired_pass A.ForwardPass.own B.ForwardPass.own).middle };
 
-    ghost last = { (paired_pass A.ForwardPass B.ForwardPass).last };
+    ghost last = { (paired_pass A.ForwardPass.own B.ForwardPass.own).last };
 
     fn after(&self, node: Middle, fact: (A::Fact, B::Fact)) -> (A::Fact, B::Fact) {
         (

@@ -1,8 +1,8 @@
 pub mod Constants
+pub mod ConstantsLaws
 pub mod Copies
+pub mod CopiesLaws
 pub mod Shared
+pub mod SharedLaws
 pub mod Sources
-pub mod Known
-pub mod SharedLemmas
-pub mod Copied
-pub mod Links
+pub mod SourcesLaws

@@ -3,9 +3,9 @@ ghost use Rattle.std.specs.Prelude.{◌≡◌, ◌<◌};
 ghost use Rattle.script.specs.Arithmetic.{same as same_number};
 ghost use Rattle.script.specs.Limits.{registers};
 ghost use Rattle.pass.specs.Pieces.{middle_piece, last_piece};
-ghost use Rattle.passes.specs.Shared.{both as both-know};
-ghost use Rattle.passes.specs.Constants.{Valid, Cautious, Admits, how_many, all_zero, meet, known_as, becomes as becomes-fact, combined as combined-number, after as after-fact, along as along-fact, sets as sets-piece, in_place, goes as goes-piece, in_place_last};
-ghost use Rattle.passes.specs.Known;
+ghost use Rattle.passes.specs.Shared.{both as both_know};
+ghost use Rattle.passes.specs.Constants.{Valid, Cautious, Admits, how_many, all_zero, meet, known_as, becomes as becomes_fact, combined as combined_number, after as after_fact, along as along_fact, sets as sets_piece, in_place, goes as goes_piece, in_place_last};
+ghost use Rattle.passes.specs.ConstantsLaws;
 
 use pass::edge::Edge;
 use pass::forward::ForwardPass;
@@ -34,7 +34,7 @@ fn same(a: i32, b: i32) -> bool
 
 // The number that both know, where they know the same one.
 fn both(a: Option<i32>, b: Option<i32>) -> Option<i32>
-    ensures { result ≡ both-know same_number a b }
+    ensures { result ≡ both_know same_number a b }
 {
     match (a, b) {
         (Some(x), Some(y)) if same(x, y) => Some(x),
@@ -64,7 +64,7 @@ impl Numbers {
 
     // The fact once a register holds a number that is known or not.
     fn becomes(self, register: Register, number: Option<i32>) -> Numbers
-        ensures { result ≡ becomes-fact self register.index number }
+        ensures { result ≡ becomes_fact self register.index number }
     {
         let i = register.index as usize;
         let mut fact = self;
@@ -76,7 +76,7 @@ impl Numbers {
 
 // What an operation makes of two numbers, where both are known.
 fn combined(operation: Operation, left: Option<i32>, right: Option<i32>) -> Option<i32>
-    ensures { result ≡ combined-number operation left right }
+    ensures { result ≡ combined_number operation left right }
 {
     match (left, right) {
         (Some(a), Some(b)) => Some(compute(operation, a, b)),
@@ -86,7 +86,7 @@ fn combined(operation: Operation, left: Option<i32>, right: Option<i32>) -> Opti
 
 // `set d k`, where k is known.
 fn sets(to: Register, number: Option<i32>) -> MiddlePiece
-    ensures { middle_piece result ≡ sets-piece to number }
+    ensures { middle_piece result ≡ sets_piece to number }
 {
     match number {
         Some(value) => MiddlePiece::one(Middle::Set { to, value }),
@@ -96,7 +96,7 @@ fn sets(to: Register, number: Option<i32>) -> MiddlePiece
 
 // `go`, where the number that is tested is known, or both ways lead to one block.
 fn goes(then: u8, other: u8, number: Option<i32>) -> LastPiece
-    ensures { last_piece result ≡ goes-piece then other number }
+    ensures { last_piece result ≡ goes_piece then other number }
 {
     match number {
         Some(value) => LastPiece::only(Last::Go {
@@ -120,7 +120,7 @@ impl Lattice for Constants {
 
     ghost joined = { λ _. meet };
 
-    ghost lawful = { λ p. Known.lattice };
+    ghost lawful = { λ _. ConstantsLaws.lattice };
 
     fn start(&self) -> Numbers {
         Numbers {
@@ -147,9 +147,9 @@ impl Lattice for Constants {
 impl ForwardPass for Constants {
     ghost admits = { λ _. Admits };
 
-    ghost follows = { λ _. after-fact };
+    ghost follows = { λ _. after_fact };
 
-    ghost crosses = { λ _. along-fact };
+    ghost crosses = { λ _. along_fact };
 
     ghost middle = { λ _. in_place };
 

@@ -1,8 +1,8 @@
 // The pass of copies: which registers hold the same number as another.
 ghost use Rattle.std.specs.Prelude.{◌≡◌};
 ghost use Rattle.pass.specs.Pieces.{middle_piece, last_piece};
-ghost use Rattle.passes.specs.Copies.{Valid, Cautious, Admits, how_many, none, meet, after as after-fact, along as along-fact, from_sources, last_from_sources, in_place, in_place_last};
-ghost use Rattle.passes.specs.Copied;
+ghost use Rattle.passes.specs.Copies.{Valid, Cautious, Admits, how_many, none, meet, after as after_fact, along as along_fact, from_sources, last_from_sources, in_place, in_place_last};
+ghost use Rattle.passes.specs.CopiesLaws;
 
 use crate::sources::Sources;
 use pass::edge::Edge;
@@ -112,7 +112,7 @@ impl Lattice for Copies {
 
     ghost joined = { λ _. meet };
 
-    ghost lawful = { λ p. Copied.lattice };
+    ghost lawful = { λ _. CopiesLaws.lattice };
 
     fn start(&self) -> PlainSources {
         nothing()
@@ -134,9 +134,9 @@ impl Lattice for Copies {
 impl ForwardPass for Copies {
     ghost admits = { λ _. Admits };
 
-    ghost follows = { λ _. after-fact };
+    ghost follows = { λ _. after_fact };
 
-    ghost crosses = { λ _. along-fact };
+    ghost crosses = { λ _. along_fact };
 
     ghost middle = { λ _. in_place };
 

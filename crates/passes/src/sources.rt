@@ -2,8 +2,8 @@
 //
 // Whatever is done to them keeps the invariant that no register is its own source, so who reads a source needs no check.
 ghost use Rattle.std.specs.Prelude.{◌≡◌, true, false, map, MatchOption, nat_eq};
-ghost use Rattle.passes.specs.Shared.{both as both-have};
-ghost use Rattle.passes.specs.Sources.{fine as fine-at, well, common, differ, without as without-it, killed, moved, row_after, source_of};
+ghost use Rattle.passes.specs.Shared.{both as both_have};
+ghost use Rattle.passes.specs.Sources.{fine as fine_at, well, common, differ, without as without_it, killed, moved, row_after, source_of};
 
 use script::limits::{EACH_REGISTER, REGISTERS};
 use script::node::Middle;
@@ -17,7 +17,7 @@ pub struct Sources {
 
 // Whether a register may have this source: none, or another register.
 fn fine(register: usize, source: Option<u8>) -> bool
-    ensures { result ≡ fine-at register source }
+    ensures { result ≡ fine_at register source }
 {
     match source {
         Some(s) => s < REGISTERS && s as usize != register,
@@ -27,7 +27,7 @@ fn fine(register: usize, source: Option<u8>) -> bool
 
 // The source that both have.
 fn both(a: Option<u8>, b: Option<u8>) -> Option<u8>
-    ensures { result ≡ both-have nat_eq a b }
+    ensures { result ≡ both_have nat_eq a b }
 {
     match (a, b) {
         (Some(s), Some(t)) if s == t => Some(s),
@@ -37,7 +37,7 @@ fn both(a: Option<u8>, b: Option<u8>) -> Option<u8>
 
 // A source, unless it is d.
 fn without(d: Register, source: Option<u8>) -> Option<u8>
-    ensures { result ≡ without-it d.index source }
+    ensures { result ≡ without_it d.index source }
 {
     match source {
         Some(s) if s != d.index => Some(s),
@@ -47,7 +47,7 @@ fn without(d: Register, source: Option<u8>) -> Option<u8>
 
 // The row without the sources that are d.
 fn cleared(mut row: [Option<u8>; EACH_REGISTER], d: Register) -> [Option<u8>; EACH_REGISTER]
-    ensures { result ≡ map (without-it d.index) row }
+    ensures { result ≡ map (without_it d.index) row }
 {
     for i in 0..EACH_REGISTER {
         row[i] = without(d, row[i]);

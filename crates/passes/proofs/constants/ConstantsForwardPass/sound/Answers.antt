@@ -1,4 +1,4 @@
-use Rattle.passes.specs.Known.{forward}
+use Rattle.passes.proofs.Known.{forward}
 use Rattle.passes.proofs.constants.ConstantsForwardPass.sound.Goals as goal
 
 pub returns : goal.returns

@@ -15,10 +15,10 @@ pub loop-i-preserved : goal.loop-i-preserved
 loop-i-preserved c =
     let i : ℕ = c.loop-i.i in
     let is : c.both-shared.result ≡ shared c.args.old c.args.new i = c.both-shared.ensures ∙ (λ j. both same (c.at-before.ensures j) (c.at.ensures j)) in
-    let fits : SFits w32 c.unwrap-or.result = search rules in (
-      write_more (λ k. is_some (shared c.args.old c.args.new k)) c.loop-i.known _ i _ false refl (c.is-some.ensures ∙ ap is_some is) (omega arith) c.loop-i.invariant.0,
-      write_more (λ k. unwrap_or (shared c.args.old c.args.new k) (pos 0)) c.loop-i.number _ i _ (pos 0) refl (to_z-of_z w32 c.unwrap-or.result fits ∙ c.unwrap-or.ensures ∙ ap (λ o. unwrap_or o (pos 0)) is) (omega arith) c.loop-i.invariant.1,
-      some_next (lost c.args.old c.args.new) i c.loop-i.differs _ c.loop-i.invariant.2 (λ j. (c.is-some-in-loop-i.ensures ∙ ap is_some c.at-before.ensures) j && not ((c.is-some-in-loop-i-2.ensures ∙ ap is_some is) j)),
+    let fits : SFits w32 c.unwrap_or.result = search rules in (
+      write_more (λ k. is_some (shared c.args.old c.args.new k)) c.loop-i.known _ i _ false refl (c.is_some.ensures ∙ ap is_some is) (omega arith) c.loop-i.invariant.0,
+      write_more (λ k. unwrap_or (shared c.args.old c.args.new k) (pos 0)) c.loop-i.number _ i _ (pos 0) refl (to_z-of_z w32 c.unwrap_or.result fits ∙ c.unwrap_or.ensures ∙ ap (λ o. unwrap_or o (pos 0)) is) (omega arith) c.loop-i.invariant.1,
+      some_next (lost c.args.old c.args.new) i c.loop-i.differs _ c.loop-i.invariant.2 (λ j. (c.is_some-in-loop-i.ensures ∙ ap is_some c.at-before.ensures) j && not ((c.is_some-in-loop-i-2.ensures ∙ ap is_some is) j)),
       length-set _ _ _ ∙ c.loop-i.invariant.3,
       length-set _ _ _ ∙ c.loop-i.invariant.4,
     )

@@ -1,4 +1,4 @@
-use Rattle.passes.specs.Copied.{forward}
+use Rattle.passes.proofs.Copied.{forward}
 use Rattle.passes.proofs.copies.CopiesForwardPass.sound.Goals as goal
 
 pub returns : goal.returns

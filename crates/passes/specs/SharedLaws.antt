@@ -1,4 +1,5 @@
--- What two facts have in common, each of them has; and where nothing drops, it is all that the first has.
+-- What two facts have in common, each of them has; and where nothing drops, it is all that the first has. They are
+-- proofs, and stand here for the laws of the two lattices.
 use Rattle.std.specs.Prelude.{◌≡◌, Bool, true, false, cond, not, is_some, Some, None, Option, refl}
 use Rattle.std.proofs.Common.{sym, ap, ◌∙◌}
 use Rattle.std.proofs.lemmas.Bool.{both_ways}

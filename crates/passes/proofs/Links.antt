@@ -1,15 +1,14 @@
 -- Rows of sources: what keeps them well.
-use Rattle.std.specs.Prelude.{◌≡◌, ℕ, zero, suc, ◌<◌, ◌≤◌, Bool, true, false, cond, not, ltb, [], ◌∷◌, map, length, replicate, Some, None, Option, ◌==◌, ◌≢◌, nat_eq, nat_lt, slice_index_or, slice_set, refl}
+use Rattle.std.specs.Prelude.{◌≡◌, ℕ, zero, suc, ◌<◌, ◌≤◌, Bool, true, false, cond, not, ltb, [], ◌∷◌, map, length, Some, None, Option, ◌==◌, ◌≢◌, nat_lt, slice_index_or, slice_set, refl}
 use Rattle.std.proofs.Common.{sym, ap, ◌∙◌, arith, length-set}
 use Rattle.std.proofs.lemmas.List.{length-map}
 use Rattle.std.proofs.lemmas.Bool.{eqb-true, eqb-false, ne_eqb, ltb-true, ltb-false, lt-ltb, and_parts, and_from, not_from_false, cond_both}
 use Rattle.script.specs.declared.register.Register.{Register}
 use Rattle.script.proofs.Same.{same_register}
 use Rattle.script.specs.Limits.{registers}
-use Rattle.pass.specs.Rows.{every}
-use Rattle.passes.specs.Shared.{both}
 use Rattle.passes.specs.Sources.{Row, source, fine, well, shared, common, without, killed, moved, register_if, register_of}
-use Rattle.pass.proofs.Rows.{get_or_row, every_true, every_from, get_d_set_at, row_all}
+use Rattle.pass.proofs.Rows.{get_d_set_at, row_all}
+use Rattle.passes.specs.SourcesLaws.{well_at, well_from}
 
 pub fine_below : (i n : ℕ) → fine i (Some n) ≡ true → n < registers
 fine_below i n e = ltb-true n registers (and_parts (nat_lt n registers) (not (n == i)) e).0
@@ -17,30 +16,12 @@ fine_below i n e = ltb-true n registers (and_parts (nat_lt n registers) (not (n 
 fine_from : (i n : ℕ) → n < registers → (n ≢ i) → fine i (Some n) ≡ true
 fine_from i n h k = and_from (nat_lt n registers) (not (n == i)) (lt-ltb n registers h) (not_from_false (n == i) (ne_eqb n i k))
 
-pub well_at : (r : Row) → well r ≡ true → (i : ℕ) → i < registers → fine i (source r i) ≡ true
-well_at r w i h = every_true (λ k. fine k (source r k)) registers w i h
-
-pub well_from : (r : Row) → ((i : ℕ) → i < registers → fine i (source r i) ≡ true) → well r ≡ true
-well_from r h = every_from (λ k. fine k (source r k)) registers h
-
 pub well_source : (r : Row) (i n : ℕ) → well r ≡ true → i < registers → source r i ≡ Some n → n < registers
 well_source r i n w h q = fine_below i n (ap (fine i) (sym q) ∙ well_at r w i h)
-
-pub well_none : well (replicate registers None) ≡ true
-unfolding every
-well_none = refl
-
-both_fine : (i : ℕ) (a b : Option ℕ) → fine i a ≡ true → fine i (both nat_eq a b) ≡ true
-both_fine i None b h = refl
-both_fine i (Some a) None h = refl
-both_fine i (Some a) (Some b) h = cond_both (a == b) (Some a) None (λ o. fine i o ≡ true) (λ q. h) (λ q. refl)
 
 without_fine : (i d : ℕ) (o : Option ℕ) → fine i o ≡ true → fine i (without d o) ≡ true
 without_fine i d None h = refl
 without_fine i d (Some s) h = cond_both (s == d) None (Some s) (λ o. fine i o ≡ true) (λ q. refl) (λ q. h)
-
-pub common_well : (r q : Row) → well r ≡ true → well (common r q) ≡ true
-common_well r q w = well_from (common r q) (λ i h. ap (fine i) (get_or_row (shared r q) i None h) ∙ both_fine i (source r i) (source q i) (well_at r w i h))
 
 get_or_without : (d : ℕ) (r : Row) (i : ℕ) → slice_index_or (map (without d) r) i None ≡ without d (slice_index_or r i None)
 get_or_without d [] i = refl
