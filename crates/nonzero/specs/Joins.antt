@@ -21,9 +21,9 @@ module _ (old new : Marks) where
 
   unchanged : Valid old → (meet old new).1 ≡ false → (meet old new).0 ≡ old
   unchanged v e =
-      let none-lost = some_false (lost old new) registers e in
-      let all-kept = row_all (kept old new) old.known false v (λ k h. stays (knows old k) (knows new k) (none-lost k h)) in
-      λ i. record { known = sym all-kept i }
+      let none_lost = some_false (lost old new) registers e in
+      let all_kept = row_all (kept old new) old.known false v (λ k h. stays (knows old k) (knows new k) (none_lost k h)) in
+      λ i. record { known = sym all_kept i }
 
   falls : Valid old → (meet old new).1 ≡ true → how_many (meet old new).0 < how_many old
   falls v e =

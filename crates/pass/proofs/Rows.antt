@@ -70,8 +70,8 @@ every_from p (suc n) h = and_from (p n) (every p n) (h n (omega arith)) (every_f
 pub every_false : (p : ℕ → Bool) (n k : ℕ) → k < n → p k ≡ false → every p n ≡ false
 every_false p n k h e = ⊎_elim (λ (q : every p n ≡ true). absurd (both_ways (p k) e (every_true p n q k h))) (λ (q : every p n ≡ false). q) (cases_Bool (every p n))
 
-pub get_d_set_at : {X : Type 0} (l : List X) (i j : ℕ) (a d : X) → i < length l → get_or (set l i a) j d ≡ cond (eqb j i) a (get_or l j d)
-get_d_set_at l i j a d h =
+pub get_or_set_at : {X : Type 0} (l : List X) (i j : ℕ) (a d : X) → i < length l → get_or (set l i a) j d ≡ cond (eqb j i) a (get_or l j d)
+get_or_set_at l i j a d h =
     ⊎_elim
     (λ (q : j ≡ i). ap (λ n. get_or (set l i a) n d) q ∙ get_or-set_same l i a d h ∙ sym (cond-true (eqb j i) a (get_or l j d) (eq-eqb j i q)))
     (λ (q : j ≡ i → ⊥). get_or-set_other l i j a d q ∙ sym (cond-false (eqb j i) a (get_or l j d) (ne_eqb j i q)))

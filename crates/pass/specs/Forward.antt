@@ -31,12 +31,12 @@ pub record LastAgrees (n : Last) (ms : List Middle) (k : Last) (admitted : File 
   pub place : (slots e : File) → Words slots → Words e → admitted e → leaves k (through slots ms e).1 ≡ leaves n e
 
 -- Over a lattice l, whose value is p.
-pub record ForwardLaws {P F : Type 0} (l : LatticeOf P F) (p : P) (admits : F → File → Type 0) (after : Middle → F → F) (along : Last → Edge → F → F) (for-middle : Middle → F → Option (List Middle)) (for-last : Last → F → Option (List Middle × Last)) : Type 0 where
+pub record ForwardLaws {P F : Type 0} (l : LatticeOf P F) (p : P) (admits : F → File → Type 0) (after : Middle → F → F) (along : Last → Edge → F → F) (for_middle : Middle → F → Option (List Middle)) (for_last : Last → F → Option (List Middle × Last)) : Type 0 where
   pub weaker : (f g : F) → l.valid p f → l.valid p g → l.cautious p g f → (e : File) → Words e → admits f e → admits g e
   pub start_admits : admits (l.origin p) zeros
   pub after_valid : (m : Middle) → Fit m → (f : F) → l.valid p f → l.valid p (after m f)
   pub after_admits : (m : Middle) → Fit m → (f : F) → l.valid p f → (slots e : File) → Words slots → Words e → admits f e → admits (after m f) (step slots m e)
   pub along_valid : (n : Last) (k : Edge) (b : ℕ) → leads n k ≡ Some b → (f : F) → l.valid p f → l.valid p (along n k f)
   pub along_admits : (n : Last) (k : Edge) (f : F) → l.valid p f → (e : File) → Words e → admits f e → Takes n k e → admits (along n k f) e
-  pub middle_agrees : (m : Middle) → Fit m → (f : F) → l.valid p f → (ms : List Middle) → for-middle m f ≡ Some ms → MiddleAgrees m ms (admits f)
-  pub last_agrees : (n : Last) (f : F) → l.valid p f → (ms : List Middle) (k : Last) → for-last n f ≡ Some (ms, k) → LastAgrees n ms k (admits f)
+  pub middle_agrees : (m : Middle) → Fit m → (f : F) → l.valid p f → (ms : List Middle) → for_middle m f ≡ Some ms → MiddleAgrees m ms (admits f)
+  pub last_agrees : (n : Last) (f : F) → l.valid p f → (ms : List Middle) (k : Last) → for_last n f ≡ Some (ms, k) → LastAgrees n ms k (admits f)

@@ -22,7 +22,7 @@ use Rattle.pass.specs.declared.lattice.Lattice.{Ghosts as LatticeOf}
 use Rattle.pass.specs.Edges.{Takes}
 use Rattle.pass.specs.Forward.{ForwardLaws, MiddleAgrees, LastAgrees}
 use Rattle.pass.proofs.Proposals.{no_piece, one_agrees, one_last_agrees}
-use Rattle.pass.proofs.Rows.{get_d_set_at}
+use Rattle.pass.proofs.Rows.{get_or_set_at}
 use Rattle.passes.specs.declared.constants.Constants.{Constants}
 use Rattle.passes.specs.declared.constants.Numbers.{Numbers}
 use Rattle.passes.specs.Constants.{knows, number_of, Valid, Cautious, Admits, how_many, all_zero, meet, known_as, becomes, combined, after, along, sets, in_place, goes, in_place_last}
@@ -42,10 +42,10 @@ combined_fits o (Some s) (Some t) = computed_fits o s t
 
 module _ (f : Numbers) (d : ℕ) (o : Option ℤ) (h : d < registers) (v : Valid f) where
   flag_after : (i : ℕ) → knows (becomes f d o) i ≡ cond (i == d) (is_some o) (knows f i)
-  flag_after i = get_d_set_at f.known d i (is_some o) false (omega (arith, v.all_known))
+  flag_after i = get_or_set_at f.known d i (is_some o) false (omega (arith, v.all_known))
 
   number_after : (i : ℕ) → number_of (becomes f d o) i ≡ cond (i == d) (unwrap_or o (pos 0)) (number_of f i)
-  number_after i = get_d_set_at f.number d i (unwrap_or o (pos 0)) (pos 0) (omega (arith, v.all_number))
+  number_after i = get_or_set_at f.number d i (unwrap_or o (pos 0)) (pos 0) (omega (arith, v.all_number))
 
   known_after : (i : ℕ) → known_as (becomes f d o) i ≡ cond (i == d) o (known_as f i)
   known_after i = (λ j. cond (flag_after i j) (Some (number_after i j)) None) ∙ by_test (i == d)

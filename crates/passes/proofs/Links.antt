@@ -7,7 +7,7 @@ use Rattle.script.specs.declared.register.Register.{Register}
 use Rattle.script.proofs.Same.{same_register}
 use Rattle.script.specs.Limits.{registers}
 use Rattle.passes.specs.Sources.{Row, source, fine, well, shared, common, without, killed, moved, register_if, register_of}
-use Rattle.pass.proofs.Rows.{get_d_set_at, row_all}
+use Rattle.pass.proofs.Rows.{get_or_set_at, row_all}
 use Rattle.passes.specs.SourcesLaws.{well_at, well_from}
 
 pub fine_below : (i n : ℕ) → fine i (Some n) ≡ true → n < registers
@@ -33,7 +33,7 @@ length_killed r d = length-set (map (without d) r) d None ∙ length-map r (with
 
 pub killed_at : (r : Row) (d i : ℕ) → d < length r → source (killed r d) i ≡ cond (i == d) None (without d (source r i))
 killed_at r d i h =
-    get_d_set_at (map (without d) r) d i None None (omega (arith, length-map r (without d))) ∙ ap (cond (i == d) None) (get_or_without d r i)
+    get_or_set_at (map (without d) r) d i None None (omega (arith, length-map r (without d))) ∙ ap (cond (i == d) None) (get_or_without d r i)
 
 pub killed_well : (r : Row) (d : ℕ) → d < length r → well r ≡ true → well (killed r d) ≡ true
 killed_well r d l w =
@@ -43,7 +43,7 @@ killed_well r d l w =
 -- a source is given to d, which is another
 pub given_well : (r : Row) (d a : ℕ) → length r ≡ registers → well r ≡ true → d < registers → a < registers → (d ≢ a) → well (slice_set r d (Some a)) ≡ true
 given_well r d a l w h k n =
-    well_from (slice_set r d (Some a)) (λ i b. ap (fine i) (get_d_set_at r d i (Some a) None (omega arith))
+    well_from (slice_set r d (Some a)) (λ i b. ap (fine i) (get_or_set_at r d i (Some a) None (omega arith))
     ∙ cond_both (i == d) (Some a) (source r i) (λ o. fine i o ≡ true) (λ q. fine_from i a k (λ z. n (sym (eqb-true i d q) ∙ sym z))) (λ q. well_at r w i b))
 
 pub moved_well : (r : Row) (d a : ℕ) → length r ≡ registers → well r ≡ true → d < registers → a < registers → well (moved r d a) ≡ true
