@@ -29,8 +29,8 @@ pub fn compute(operation: Operation, a: i32, b: i32) -> i32
         Operation::Mul => a.wrapping_mul(b),
         Operation::Div => quotient(a, b),
         Operation::Rem => remainder(a, b),
-        Operation::Lt => { if a < b { 1 } else { 0 } }
-        Operation::Eq => { if a == b { 1 } else { 0 } }
+        Operation::Lt => i32::from(a < b),
+        Operation::Eq => i32::from(a == b),
     }
 }
 

@@ -2,7 +2,7 @@
 use super::node::{Last, Middle};
 
 // How a block is stored: its last node, and where its middle nodes end in the row of all middle nodes.
-#[derive(Clone, Copy)]
+#[derive(Clone, Copy, Debug, Default, PartialEq, Eq)]
 pub struct BlockEnd {
     pub end: usize,
     pub last: Last,

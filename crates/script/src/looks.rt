@@ -4,22 +4,9 @@ ghost use Rattle.script.specs.Model.{program_of, blank, blank_end, found, begin_
 
 use super::block::{Block, BlockEnd};
 use super::limits::{MOST_BLOCKS, MOST_MIDDLES};
-use super::node::{Last, Middle};
-use super::register::Register;
+use super::node::Middle;
 use super::store::Script;
 use std::alloc::{AllocError, Global};
-
-// The only block of the script `end r0`.
-fn ending() -> BlockEnd
-    ensures { result ≡ blank_end }
-{
-    BlockEnd {
-        end: 0,
-        last: Last::End {
-            from: Register { index: 0 },
-        },
-    }
-}
 
 impl Script {
     // The script `end r0`, with memory reserved for every script.
@@ -28,7 +15,7 @@ impl Script {
     {
         let middles = Vec::with_capacity(heap, MOST_MIDDLES)?;
         let mut blocks = Vec::with_capacity(heap, MOST_BLOCKS)?;
-        blocks.push_reserved(ending());
+        blocks.push_reserved(BlockEnd::default());
         Ok(Script { middles, blocks })
     }
 
@@ -50,17 +37,12 @@ impl Script {
     pub fn block(&self, i: usize) -> Option<Block<'_>>
         ensures { elim result [ Some b ↦ found (program_of self.now) i ≡ Some (b.middles.now, b.last) | None ↦ found (program_of self.now) i ≡ None ] }
     {
-        let ends = self.blocks.as_slice();
-        if i < ends.len() {
-            let from = self.begin(i);
-            let stored = ends[i];
-            Some(Block {
-                middles: part(self.middles.as_slice(), from, stored.end),
-                last: stored.last,
-            })
-        } else {
-            None
-        }
+        let stored = self.blocks.get(i)?;
+        let from = self.begin(i);
+        Some(Block {
+            middles: part(self.middles.as_slice(), from, stored.end),
+            last: stored.last,
+        })
     }
 
     // Where the middle nodes of block i begin.

@@ -2,7 +2,7 @@
 use super::register::{Register, Slot};
 
 // The arithmetic of two registers.
-#[derive(Clone, Copy)]
+#[derive(Clone, Copy, Debug, PartialEq, Eq)]
 pub enum Operation {
     Add,
     Sub,
@@ -14,7 +14,7 @@ pub enum Operation {
 }
 
 // A node inside a block.
-#[derive(Clone, Copy)]
+#[derive(Clone, Copy, Debug, PartialEq, Eq)]
 pub enum Middle {
     // set d k
     Set {
@@ -44,8 +44,22 @@ pub enum Middle {
     },
 }
 
+// `put r0`, which stands in the places of a row that no node has taken.
+impl Default for Middle {
+    ghost use Rattle.std.specs.Prelude.{◌≡◌};
+    ghost use Rattle.script.specs.Model.{unused};
+
+    ghost is_default = { λ m. m ≡ unused };
+
+    fn default() -> Middle {
+        Middle::Put {
+            from: Register { index: 0 },
+        }
+    }
+}
+
 // The node that ends a block. A block is named by its place in the script, from 0.
-#[derive(Clone, Copy)]
+#[derive(Clone, Copy, Debug, PartialEq, Eq)]
 pub enum Last {
     // go L
     Go { target: u8 },
@@ -53,4 +67,18 @@ pub enum Last {
     If { test: Register, then: u8, other: u8 },
     // end a
     End { from: Register },
+}
+
+// `end r0`
+impl Default for Last {
+    ghost use Rattle.std.specs.Prelude.{◌≡◌};
+    ghost use Rattle.script.specs.Run.{end_r0};
+
+    ghost is_default = { λ l. l ≡ end_r0 };
+
+    fn default() -> Last {
+        Last::End {
+            from: Register::default(),
+        }
+    }
 }

@@ -1,16 +1,25 @@
 // A register and a slot: numbers below sixteen.
-ghost use Rattle.std.specs.Prelude.{◌<◌};
+ghost use Rattle.std.specs.Prelude.{◌≡◌, ◌<◌};
 ghost use Rattle.script.specs.Limits.{registers, slots};
 
 // One of the registers r0 to r15.
-#[derive(Clone, Copy)]
+#[derive(Clone, Copy, Debug, PartialEq, Eq)]
 pub struct Register {
     pub index: u8,
     ghost ok: { index < registers },
 }
 
+// r0
+impl Default for Register {
+    ghost is_default = { λ r. r.index ≡ 0 };
+
+    fn default() -> Register {
+        Register { index: 0 }
+    }
+}
+
 // One of the slots 0 to 15, which the job fills before a run.
-#[derive(Clone, Copy)]
+#[derive(Clone, Copy, Debug, PartialEq, Eq)]
 pub struct Slot {
     pub index: u8,
     ghost ok: { index < slots },
