@@ -1,6 +1,7 @@
 // Rows with one element for each register, or none: what two of them have in common.
-ghost use Rattle.std.specs.Prelude.{◌≡◌};
-ghost use Rattle.passes.specs.Shared.{both as both_have, common, differ};
+ghost use Rattle.std.specs.Prelude.{◌≡◌, ◌<◌};
+ghost use Rattle.script.specs.Limits.{registers};
+ghost use Rattle.passes.specs.Shared.{both as both_have, shared, common, differ};
 
 use script::limits::EACH_REGISTER;
 use std::array;
@@ -20,6 +21,12 @@ pub fn join<T: Eq + Copy>(old: Row<T>, new: Row<T>) -> (Row<T>, bool)
     ensures shared { result.0 ≡ common T.eq old new }
     ensures differs { result.1 ≡ differ T.eq old new }
 {
-    let row = array::from_fn(|i| both(old[i], new[i]));
-    (row, row != old)
+    let row = array::from_fn(|i|
+        requires { i < registers }
+        ensures { result ≡ shared T.eq old new i }
+    {
+        both(old[i], new[i])
+    });
+    let differs = row != old;
+    (row, differs)
 }
