@@ -1,13 +1,13 @@
 -- Rows of sources: what keeps them well.
-use Rattle.std.specs.Prelude.{◌≡◌, ℕ, zero, suc, ◌<◌, ◌≤◌, Bool, true, false, cond, not, ltb, [], ◌∷◌, map, length, Some, None, Option, ◌==◌, ◌≢◌, nat_lt, slice_index_or, slice_set, refl}
+use Rattle.std.specs.Prelude.{◌≡◌, ℕ, zero, suc, ◌<◌, Bool, true, false, cond, not, ltb, [], ◌∷◌, map, length, Some, None, Option, ◌==◌, ◌≢◌, nat_lt, slice_index_or, slice_set, refl}
 use Rattle.std.proofs.Common.{sym, ap, ◌∙◌, arith, length-set}
 use Rattle.std.proofs.lemmas.List.{length-map}
 use Rattle.std.proofs.lemmas.Bool.{eqb-true, eqb-false, ne_eqb, ltb-true, ltb-false, lt-ltb, and_parts, and_from, not_from_false, cond_both}
 use Rattle.script.specs.declared.register.Register.{Register}
 use Rattle.script.proofs.Same.{same_register}
 use Rattle.script.specs.Limits.{registers}
-use Rattle.passes.specs.Sources.{Row, source, fine, well, shared, common, without, killed, moved, register_if, register_of}
-use Rattle.pass.proofs.Rows.{get_or_set_at, row_all}
+use Rattle.passes.specs.Sources.{Row, source, fine, well, without, killed, moved, register_if, register_of}
+use Rattle.pass.proofs.Rows.{get_or_set_at}
 use Rattle.passes.specs.SourcesLaws.{well_at, well_from}
 
 pub fine_below : (i n : ℕ) → fine i (Some n) ≡ true → n < registers
@@ -67,8 +67,3 @@ register_if_some n false e s q = let z : ◌≡◌ {A = ℕ} 0 1 = cc in absurd 
 pub register_of_some : (o : Option ℕ) (s : Register) → register_of o ≡ Some s → o ≡ Some s.index
 register_of_some None s q = let z : ◌≡◌ {A = ℕ} 0 1 = cc in absurd (omega arith)
 register_of_some (Some n) s q = ap Some (register_if_some n (nat_lt n registers) refl s q)
-
--- ---- the ends of the loops
-
-pub common_all : (r q t : Row) (i : ℕ) → length t ≡ registers → registers ≤ i → ((k : ℕ) → k < i → source t k ≡ shared r q k) → t ≡ common r q
-common_all r q t i l b h = row_all (shared r q) t None l (λ k a. h k (omega arith))

@@ -107,7 +107,8 @@ impl Lattice for Copies {
             return (nothing(), true);
         };
         let (both, differs) = a.join(&b);
-        (PlainSources { row: both.row }, differs)
+        let row = both.row;
+        (PlainSources { row }, differs)
     }
 }
 
@@ -124,9 +125,10 @@ impl ForwardPass for Copies {
 
     fn after(&self, node: Middle, fact: PlainSources) -> PlainSources {
         match Sources::checked(fact.row) {
-            Some(before) => PlainSources {
-                row: before.after(node).row,
-            },
+            Some(before) => {
+                let row = before.after(node).row;
+                PlainSources { row }
+            }
             None => nothing(),
         }
     }

@@ -23,12 +23,19 @@ fn fine(register: usize, source: Option<u8>) -> bool
     source.is_none_or(|s| s < REGISTERS && s as usize != register)
 }
 
+// A source, unless it is d.
+fn without(d: Register, source: Option<u8>) -> Option<u8>
+    ensures { result ≡ without_it d.index source }
+{
+    source.filter(|s| *s != d.index)
+}
+
 // The row without the sources that are d.
 fn cleared(mut row: Row<u8>, d: Register) -> Row<u8>
     ensures { result ≡ map (without_it d.index) row }
 {
     for source in &mut row {
-        *source = source.filter(|s| *s != d.index);
+        *source = without(d, *source);
     }
     row
 }
@@ -38,12 +45,11 @@ impl Sources {
     pub fn checked(row: Row<u8>) -> Option<Sources>
         ensures { MatchOption result (well row ≡ false) (λ s. (s.row ≡ row) × (well row ≡ true)) }
     {
-        for (i, source) in row.iter().enumerate() {
-            if !fine(i, *source) {
-                return None;
-            }
+        if row.iter().enumerate().all(|(i, source)| fine(i, *source)) {
+            Some(Sources { row })
+        } else {
+            None
         }
-        Some(Sources { row })
     }
 
     // The source of a register.
