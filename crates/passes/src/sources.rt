@@ -45,11 +45,12 @@ impl Sources {
     pub fn checked(row: Row<u8>) -> Option<Sources>
         ensures { MatchOption result (well row ≡ false) (λ s. (s.row ≡ row) × (well row ≡ true)) }
     {
-        if row.iter().enumerate().all(|(i, source)| fine(i, *source)) {
-            Some(Sources { row })
-        } else {
-            None
+        for (i, source) in row.iter().enumerate() {
+            if !fine(i, *source) {
+                return None;
+            }
         }
+        Some(Sources { row })
     }
 
     // The source of a register.
