@@ -14,6 +14,7 @@ use pass::piece::{LastPiece, MiddlePiece};
 use script::limits::EACH_REGISTER;
 use script::node::{Last, Middle};
 use script::register::Register;
+use std::array;
 
 // For each register whether it is known not to hold 0.
 #[derive(Clone, Copy)]
@@ -64,13 +65,8 @@ impl Lattice for NonZero {
     }
 
     fn join(&self, old: Marks, new: Marks) -> (Marks, bool) {
-        let mut known = old.known;
-        let mut differs = false;
-        for i in 0..EACH_REGISTER {
-            known[i] = old.known[i] & new.known[i];
-            differs |= old.known[i] & !new.known[i];
-        }
-        (Marks { known }, differs)
+        let known = array::from_fn(|i| old.known[i] & new.known[i]);
+        (Marks { known }, known != old.known)
     }
 }
 
@@ -105,16 +101,16 @@ impl ForwardPass for NonZero {
         }
     }
 
-    fn for_middle(&self, node: Middle, fact: Marks) -> MiddlePiece {
-        MiddlePiece::none()
+    fn for_middle(&self, node: Middle, fact: Marks) -> Option<MiddlePiece> {
+        None
     }
 
-    fn for_last(&self, node: Last, fact: Marks) -> LastPiece {
+    fn for_last(&self, node: Last, fact: Marks) -> Option<LastPiece> {
         match node {
-            Last::If { test, then, .. } if fact.has(test) => LastPiece::only(Last::Go {
-                target: then,
-            }),
-            _ => LastPiece::none(),
+            Last::If { test, then, .. } if fact.has(test) => {
+                Some(LastPiece::only(Last::Go { target: then }))
+            }
+            _ => None,
         }
     }
 
