@@ -17,7 +17,7 @@ use script::register::Register;
 use std::array;
 
 // For each register whether it is known not to hold 0.
-#[derive(Clone, Copy)]
+#[derive(Clone, Copy, PartialEq, Eq)]
 pub struct Marks {
     pub known: [bool; EACH_REGISTER],
 }
@@ -34,12 +34,11 @@ impl Marks {
     }
 
     // The marks once a register is known, or no longer known, not to hold 0.
-    fn with(self, register: Register, known: bool) -> Marks
+    fn with(mut self, register: Register, known: bool) -> Marks
         ensures { result ≡ marked self register.index known }
     {
-        let mut marks = self;
-        marks.known[register.index as usize] = known;
-        marks
+        self.known[register.index as usize] = known;
+        self
     }
 }
 
@@ -65,8 +64,10 @@ impl Lattice for NonZero {
     }
 
     fn join(&self, old: Marks, new: Marks) -> (Marks, bool) {
-        let known = array::from_fn(|i| old.known[i] & new.known[i]);
-        (Marks { known }, known != old.known)
+        let both = Marks {
+            known: array::from_fn(|i| old.known[i] & new.known[i]),
+        };
+        (both, both != old)
     }
 }
 
