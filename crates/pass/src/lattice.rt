@@ -24,7 +24,7 @@ pub trait Lattice {
     fn start(&self) -> Self::Fact
         ensures { result ≡ origin self.now };
 
-    // The joined fact, and whether it differs from the old one.
+    // The joined fact, and whether it differs from the old one: the interface of passes has a join answer both.
     fn join(&self, old: Self::Fact, new: Self::Fact) -> (Self::Fact, bool)
         ensures { result ≡ joined self.now old new };
 

@@ -66,15 +66,13 @@ impl<A: ForwardPass, B: ForwardPass> ForwardPass for Pair<A, B> {
     }
 
     fn for_middle(&self, node: Middle, fact: (A::Fact, B::Fact)) -> Option<MiddlePiece> {
-        self.first
-            .for_middle(node, fact.0)
-            .or_else(|| self.second.for_middle(node, fact.1))
+        let piece = self.first.for_middle(node, fact.0);
+        piece.or_else(|| self.second.for_middle(node, fact.1))
     }
 
     fn for_last(&self, node: Last, fact: (A::Fact, B::Fact)) -> Option<LastPiece> {
-        self.first
-            .for_last(node, fact.0)
-            .or_else(|| self.second.for_last(node, fact.1))
+        let piece = self.first.for_last(node, fact.0);
+        piece.or_else(|| self.second.for_last(node, fact.1))
     }
 
     fn sound(&self) {

@@ -8,7 +8,7 @@ use script::node::{Last, Middle};
 pub type MiddlePiece = ArrayVec<Middle, 4>;
 
 // In place of a last node: 0 to 4 middle nodes, and a last node.
-#[derive(Drop)]
+#[derive(Debug, PartialEq, Eq, Drop)]
 pub struct LastPiece {
     pub middles: ArrayVec<Middle, 4>,
     pub last: Last,
