@@ -1,4 +1,4 @@
-// The two kinds of node that are offered to a pass, and what it proposes for each.
+// Nodes of both kinds, as examples offer them to a pass.
 use nodes::{last, middle};
 use pass::forward::ForwardPass;
 use pass::piece::{LastPiece, MiddlePiece, one};
@@ -6,7 +6,9 @@ use script::node::{Last, Middle};
 use std::fmt::Debug;
 use std::test::Fail;
 
+// A kind of node: a middle node or a last node.
 pub trait Offered: Copy {
+    // What may stand in its place.
     type Piece: PartialEq + Debug + Drop;
 
     // The node of a line.
