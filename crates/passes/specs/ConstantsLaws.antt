@@ -1,7 +1,7 @@
 -- The laws of the lattice of constants. They are proofs, and stand here because the impl in src/ gives them as its
 -- `lawful`.
 use Rattle.std.specs.Prelude.{◌≡◌, ℕ, ◌<◌, true, false, ℤ, pos, negsuc, Some, None, FitsSigned, refl}
-use Rattle.std.proofs.Common.{sym, ap, subst, ◌∙◌, arith, lit<}
+use Rattle.std.proofs.Common.{sym, ap, subst, ◌∙◌, lit<}
 use Rattle.std.specs.Int.{w32}
 use Rattle.std.proofs.lemmas.List.{get_or-replicate}
 use Rattle.std.proofs.lemmas.Bool.{both_ways, eqb-true}
