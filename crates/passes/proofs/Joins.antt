@@ -1,27 +1,13 @@
--- The join of two rows: what an array holds that a function makes, and when the joined row differs from the old one.
-use Rattle.std.proofs.Common.{◌≡◌, ℕ, zero, suc, ◌+◌, ◌<◌, ◌≤◌, Bool, true, false, cond, not, List, [], ◌∷◌, length, get_or, is_some, Some, None, Option, count_by, sym, refl, ap, subst, ◌∙◌, ⊎_elim, arith}
-use Rattle.std.specs.Array.{IsFromFnResultFrom}
-use Rattle.std.specs.Fn.{Called}
+-- When a joined row differs from the old one.
+use Rattle.std.proofs.Common.{◌≡◌, ℕ, Bool, true, false, cond, not, List, [], ◌∷◌, length, is_some, Some, None, Option, count_by, sym, refl, ap, ◌∙◌, ⊎_elim, arith}
 use Rattle.std.specs.Option.{option_eq}
 use Rattle.std.specs.Cmp.{IsEquivalence}
 use Rattle.std.specs.Cmp.Lexicographic.{pointwise, lists_equiv, options_equiv}
 use Rattle.std.proofs.lemmas.List.Sums.{sum_by-cons}
-use Rattle.std.proofs.lemmas.Bool.{cases_eq, cases_Bool, and_parts, both_ways}
-use denote.Param.Members.{Mut}
+use Rattle.std.proofs.lemmas.Bool.{cases_Bool, and_parts, both_ways}
 use Rattle.script.specs.Limits.{registers}
 use Rattle.passes.specs.Shared.{common, differ}
 use Rattle.passes.specs.SharedLaws.{unchanged, falls}
-
--- an array that a function makes, which stays as it is and answers R k at k
-module _ {F B : Type 0} (g : Mut F (ℕ × Unit {0}) B) (f : F) (R : ℕ → B) (says : (k : ℕ) (y : B) (q : F) → Called g f (k, tt) y q → (y ≡ R k) × (q ≡ f)) where
-  pub made : (n i : ℕ) (p : F) (ys : List B) → p ≡ f → IsFromFnResultFrom g p ys i n → (k : ℕ) (d : B) → i ≤ k → k < i + n → get_or ys k d ≡ R k
-  made zero i p ys e h k d a b = absurd (omega arith)
-  made (suc n) i p ys e h k d a b =
-      let s = says i h.1 h.0 (subst (λ z. Called g z (i, tt) h.1 h.0) e h.3) in
-      ⊎_elim
-      (λ (t : k ≡ i). ap (λ j. get_or ys j d) t ∙ h.2.1 d ∙ s.0 ∙ ap R (sym t))
-      (λ (t : k ≡ i → ⊥). made n (i + 1) h.0 ys s.1 h.4 k d (omega arith) (omega arith))
-      (cases_eq k i)
 
 module _ {X : Type 0} (same : X → X → Bool) where
   one_count : (a b : Option X) → option_eq same a b ≡ true → is_some a ≡ is_some b
@@ -43,13 +29,13 @@ module _ {X : Type 0} (same : X → X → Bool) where
 
   pub differs : IsEquivalence same → (r q : List (Option X)) → length r ≡ registers → not (pointwise (option_eq same) (common same r q) r) ≡ differ same r q
   differs s r q l = ⊎_elim
-    (λ (t : differ same r q ≡ true).
-    ⊎_elim
-    (λ (e : pointwise (option_eq same) (common same r q) r ≡ true).
-    let less = falls same r q l t in
-    let even = counts (common same r q) r e in
-    absurd (omega arith))
-    (λ (e : pointwise (option_eq same) (common same r q) r ≡ false). ap not e ∙ sym t)
-    (cases_Bool (pointwise (option_eq same) (common same r q) r)))
-    (λ (t : differ same r q ≡ false). ap (λ z. not (pointwise (option_eq same) z r)) (unchanged same r q l t) ∙ ap not ((lists_equiv (options_equiv s)).refl r) ∙ sym t)
-    (cases_Bool (differ same r q))
+      (λ (t : differ same r q ≡ true).
+      ⊎_elim
+      (λ (e : pointwise (option_eq same) (common same r q) r ≡ true).
+      let less = falls same r q l t in
+      let even = counts (common same r q) r e in
+      absurd (omega arith))
+      (λ (e : pointwise (option_eq same) (common same r q) r ≡ false). ap not e ∙ sym t)
+      (cases_Bool (pointwise (option_eq same) (common same r q) r)))
+      (λ (t : differ same r q ≡ false). ap (λ z. not (pointwise (option_eq same) z r)) (unchanged same r q l t) ∙ ap not ((lists_equiv (options_equiv s)).refl r) ∙ sym t)
+      (cases_Bool (differ same r q))

@@ -3,6 +3,7 @@
 use Rattle.std.specs.Prelude.{◌≡◌, ℕ, ◌<◌, Bool, true, false, cond, not, List, length, is_some, Some, None, Option, count_by, refl}
 use Rattle.std.proofs.Common.{sym, ap, ◌∙◌, arith}
 use Rattle.std.proofs.lemmas.Bool.{both_ways, and_parts, not-true}
+use Rattle.std.proofs.lemmas.Option.{cond_some}
 use Rattle.script.specs.Limits.{registers}
 use Rattle.pass.proofs.Proposals.{no_piece}
 use Rattle.pass.proofs.Rows.{length_row, get_or_row, row_all, some_false, some_true, fewer}
@@ -12,20 +13,12 @@ module _ {X : Type 0} (same : X → X → Bool) where
   pub both_left : (a b : Option X) (x : X) → both same a b ≡ Some x → a ≡ Some x
   both_left None b x q = q
   both_left (Some a) None x q = no_piece x q
-  both_left (Some a) (Some b) x q = by_test (same a b) q
-    where
-      by_test : (t : Bool) → cond t (Some a) None ≡ Some x → Some a ≡ Some x
-      by_test true q = q
-      by_test false q = no_piece x q
+  both_left (Some a) (Some b) x q = ap Some (cond_some (same a b) a x q).1
 
   pub both_right : ((x y : X) → same x y ≡ true → x ≡ y) → (a b : Option X) (x : X) → both same a b ≡ Some x → b ≡ Some x
   both_right h None b x q = no_piece x q
   both_right h (Some a) None x q = no_piece x q
-  both_right h (Some a) (Some b) x q = by_test (same a b) refl q
-    where
-      by_test : (t : Bool) → same a b ≡ t → cond t (Some a) None ≡ Some x → Some b ≡ Some x
-      by_test true e q = ap Some (sym (h a b e)) ∙ q
-      by_test false e q = no_piece x q
+  both_right h (Some a) (Some b) x q = let t = cond_some (same a b) a x q in ap Some (sym (h a b t.0) ∙ t.1)
 
   pub undropped : (a b : Option X) → drops same a b ≡ false → a ≡ both same a b
   undropped None b q = refl

@@ -20,6 +20,15 @@ pub struct PlainSources {
     pub row: Row<u8>,
 }
 
+impl From<Sources> for PlainSources {
+    ghost from_gives = { λ sources plain. plain.row ≡ sources.row };
+
+    fn from(sources: Sources) -> PlainSources {
+        let row = sources.row;
+        PlainSources { row }
+    }
+}
+
 #[derive(Clone, Copy)]
 pub struct Copies;
 
@@ -38,8 +47,8 @@ fn middle_from(sources: &Sources, node: Middle) -> Option<MiddlePiece>
 {
     match node {
         Middle::Mov { to, from } => {
-            let from = sources.of(from)?;
-            Some(piece::one(Middle::Mov { to, from }))
+            let source = sources.of(from)?;
+            Some(piece::one(Middle::Mov { to, from: source }))
         }
         Middle::Compute {
             operation,
@@ -59,8 +68,8 @@ fn middle_from(sources: &Sources, node: Middle) -> Option<MiddlePiece>
             }))
         }
         Middle::Put { from } => {
-            let from = sources.of(from)?;
-            Some(piece::one(Middle::Put { from }))
+            let source = sources.of(from)?;
+            Some(piece::one(Middle::Put { from: source }))
         }
         Middle::Set { .. } | Middle::Get { .. } => None,
     }
@@ -72,12 +81,16 @@ fn last_from(sources: &Sources, node: Last) -> Option<LastPiece>
 {
     match node {
         Last::If { test, then, other } => {
-            let test = sources.of(test)?;
-            Some(LastPiece::only(Last::If { test, then, other }))
+            let source = sources.of(test)?;
+            Some(LastPiece::only(Last::If {
+                test: source,
+                then,
+                other,
+            }))
         }
         Last::End { from } => {
-            let from = sources.of(from)?;
-            Some(LastPiece::only(Last::End { from }))
+            let source = sources.of(from)?;
+            Some(LastPiece::only(Last::End { from: source }))
         }
         Last::Go { .. } => None,
     }
@@ -107,8 +120,7 @@ impl Lattice for Copies {
             return (nothing(), true);
         };
         let (both, differs) = a.join(&b);
-        let row = both.row;
-        (PlainSources { row }, differs)
+        (both.into(), differs)
     }
 }
 
@@ -125,10 +137,7 @@ impl ForwardPass for Copies {
 
     fn after(&self, node: Middle, fact: PlainSources) -> PlainSources {
         match Sources::checked(fact.row) {
-            Some(before) => {
-                let row = before.after(node).row;
-                PlainSources { row }
-            }
+            Some(before) => before.after(node).into(),
             None => nothing(),
         }
     }

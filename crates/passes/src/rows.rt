@@ -21,12 +21,12 @@ pub fn join<T: Eq + Copy>(old: Row<T>, new: Row<T>) -> (Row<T>, bool)
     ensures shared { result.0 ≡ common T.eq old new }
     ensures differs { result.1 ≡ differ T.eq old new }
 {
-    let row = array::from_fn(|i|
-        requires { i < registers }
-        ensures { result ≡ shared T.eq old new i }
-    {
-        both(old[i], new[i])
-    });
+    let row = array::from_fn(
+        |i|
+            requires { i < registers }
+            ensures { result ≡ shared T.eq old new i }
+        { both(old[i], new[i]) },
+    );
     let differs = row != old;
     (row, differs)
 }

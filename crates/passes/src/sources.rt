@@ -45,10 +45,8 @@ impl Sources {
     pub fn checked(row: Row<u8>) -> Option<Sources>
         ensures { MatchOption result (well row ≡ false) (λ s. (s.row ≡ row) × (well row ≡ true)) }
     {
-        for (i, source) in row.iter().enumerate() {
-            if !fine(i, *source) {
-                return None;
-            }
+        if !row.iter().enumerate().all(|(i, source)| fine(i, *source)) {
+            return None;
         }
         Some(Sources { row })
     }
