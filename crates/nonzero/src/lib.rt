@@ -14,9 +14,10 @@ use pass::piece::{LastPiece, MiddlePiece};
 use script::limits::EACH_REGISTER;
 use script::node::{Last, Middle};
 use script::register::Register;
+use std::array;
 
 // For each register whether it is known not to hold 0.
-#[derive(Clone, Copy)]
+#[derive(Clone, Copy, PartialEq, Eq)]
 pub struct Marks {
     pub known: [bool; EACH_REGISTER],
 }
@@ -33,12 +34,11 @@ impl Marks {
     }
 
     // The marks once a register is known, or no longer known, not to hold 0.
-    fn with(self, register: Register, known: bool) -> Marks
+    fn with(mut self, register: Register, known: bool) -> Marks
         ensures { result ≡ marked self register.index known }
     {
-        let mut marks = self;
-        marks.known[register.index as usize] = known;
-        marks
+        self.known[register.index as usize] = known;
+        self
     }
 }
 
@@ -64,13 +64,10 @@ impl Lattice for NonZero {
     }
 
     fn join(&self, old: Marks, new: Marks) -> (Marks, bool) {
-        let mut known = old.known;
-        let mut differs = false;
-        for i in 0..EACH_REGISTER {
-            known[i] = old.known[i] & new.known[i];
-            differs |= old.known[i] & !new.known[i];
-        }
-        (Marks { known }, differs)
+        let both = Marks {
+            known: array::from_fn(|i| old.known[i] & new.known[i]),
+        };
+        (both, both != old)
     }
 }
 
@@ -105,16 +102,16 @@ impl ForwardPass for NonZero {
         }
     }
 
-    fn for_middle(&self, node: Middle, fact: Marks) -> MiddlePiece {
-        MiddlePiece::none()
+    fn for_middle(&self, node: Middle, fact: Marks) -> Option<MiddlePiece> {
+        None
     }
 
-    fn for_last(&self, node: Last, fact: Marks) -> LastPiece {
+    fn for_last(&self, node: Last, fact: Marks) -> Option<LastPiece> {
         match node {
-            Last::If { test, then, .. } if fact.has(test) => LastPiece::only(Last::Go {
-                target: then,
-            }),
-            _ => LastPiece::none(),
+            Last::If { test, then, .. } if fact.has(test) => {
+                Some(LastPiece::only(Last::Go { target: then }))
+            }
+            _ => None,
         }
     }
 

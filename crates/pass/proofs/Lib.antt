@@ -1,3 +1,4 @@
+pub mod Joins
 pub mod Pairs
 pub mod Proposals
 pub mod Rows

@@ -1,5 +1,7 @@
 -- Rows with one element for each register: what they hold, and how often a test passes in them.
-use Rattle.std.proofs.Common.{◌≡◌, ℕ, zero, suc, ◌+◌, ◌<◌, ◌≤◌, Bool, true, false, cond, ◌||◌, eqb, List, [], ◌∷◌, length, get_or, set, count_by, sym, refl, ap, ◌∙◌, ⊎_elim, add-one, arith, get_or-set_other, get_or-set_same}
+use Rattle.std.specs.Array.{IsFromFnResultFrom, IsFromFnResult}
+use Rattle.std.specs.Fn.{Called, Mut}
+use Rattle.std.proofs.Common.{◌≡◌, ℕ, zero, suc, ◌+◌, ◌<◌, ◌≤◌, Bool, true, false, cond, ◌||◌, eqb, List, [], ◌∷◌, length, get_or, set, count_by, sym, refl, ap, subst, ◌∙◌, ⊎_elim, add-one, arith, get_or-set_other, get_or-set_same}
 use mathlib.Core.Bool.{or_comm}
 use Rattle.std.proofs.lemmas.List.Sums.{sum_by-cons}
 use Rattle.std.proofs.lemmas.Bool.{cases_eq, cases_Bool, and_from, and_parts, or_parts, or_cases, both_ways, cond-true, cond-false, eq-eqb, ne_eqb}
@@ -19,6 +21,20 @@ get_or_row f i d h = get_or-map-range_with_len f 0 registers i i d h (omega arit
 pub row_all : {X : Type 0} (f : ℕ → X) (xs : List X) (d : X) → length xs ≡ registers → ((k : ℕ) → k < registers → get_or xs k d ≡ f k) → xs ≡ row f
 unfolding row
 row_all f xs d l h = fill_by_all f xs registers d l h
+
+-- A row that `array::from_fn` made: `h i` is what the function answers at i, and no call changes it.
+module _ {F X : Type 0} (g : Mut F (ℕ × Unit {0}) X) (f : F) (h : ℕ → X) (answers : (i : ℕ) (x : X) (q : F) → Called g f (i, tt) x q → (x ≡ h i) × (q ≡ f)) where
+  made_from : (xs : List X) (n i : ℕ) → IsFromFnResultFrom g f xs i n → (k : ℕ) (d : X) → i ≤ k → k < i + n → get_or xs k d ≡ h k
+  made_from xs zero i m k d a b = absurd (omega (arith, a, b))
+  made_from xs (suc n) i m k d a b =
+      let one = answers i m.1 m.0 m.3 in
+      ⊎_elim
+      (λ (q : k ≡ i). rw q (m.2.1 d ∙ one.0))
+      (λ (q : k ≡ i → ⊥). made_from xs n (i + 1) (subst (λ p. IsFromFnResultFrom g p xs (i + 1) n) one.1 m.4) k d (omega (arith, a, q)) (omega (arith, b)))
+      (cases_eq k i)
+
+  pub row_made : (xs : List X) (d : X) → IsFromFnResult g f xs registers → xs ≡ row h
+  row_made xs d made = row_all h xs d made.long (λ k b. made_from xs registers 0 made.each k d (omega arith) (omega (arith, b)))
 
 pub some_none : (p : ℕ → Bool) → some p 0 ≡ false
 unfolding some

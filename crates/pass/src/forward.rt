@@ -37,11 +37,11 @@ pub trait ForwardPass: Lattice {
         ensures { result ≡ crosses self.now node edge fact };
 
     // A piece for a middle node, or none.
-    fn for_middle(&self, node: Middle, fact: Self::Fact) -> MiddlePiece
+    fn for_middle(&self, node: Middle, fact: Self::Fact) -> Option<MiddlePiece>
         ensures { middle_piece result ≡ middle self.now node fact };
 
     // A piece for a last node, or none.
-    fn for_last(&self, node: Last, fact: Self::Fact) -> LastPiece
+    fn for_last(&self, node: Last, fact: Self::Fact) -> Option<LastPiece>
         ensures { last_piece result ≡ last self.now node fact };
 
     // Does nothing: its promise is what ties admission to the order, to the answers and to the pieces.

@@ -24,9 +24,10 @@ pub trait Lattice {
     fn start(&self) -> Self::Fact
         ensures { result ≡ origin self.now };
 
-    // The joined fact, and whether it differs from the old one.
+    // The joined fact, and whether it differs from the old one: the interface of passes has a join answer both.
     fn join(&self, old: Self::Fact, new: Self::Fact) -> (Self::Fact, bool)
         ensures { result ≡ joined self.now old new };
 
+    // The members one by one: a definition over the trait's own record of them would import the trait, which imports it.
     ghost lawful: { (p : Self) → LatticeLaws (valid p) (cautious p) (rank p) (origin p) (joined p) };
 }

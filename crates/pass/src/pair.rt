@@ -65,22 +65,14 @@ impl<A: ForwardPass, B: ForwardPass> ForwardPass for Pair<A, B> {
         )
     }
 
-    fn for_middle(&self, node: Middle, fact: (A::Fact, B::Fact)) -> MiddlePiece {
+    fn for_middle(&self, node: Middle, fact: (A::Fact, B::Fact)) -> Option<MiddlePiece> {
         let piece = self.first.for_middle(node, fact.0);
-        if piece.proposed {
-            piece
-        } else {
-            self.second.for_middle(node, fact.1)
-        }
+        piece.or_else(|| self.second.for_middle(node, fact.1))
     }
 
-    fn for_last(&self, node: Last, fact: (A::Fact, B::Fact)) -> LastPiece {
+    fn for_last(&self, node: Last, fact: (A::Fact, B::Fact)) -> Option<LastPiece> {
         let piece = self.first.for_last(node, fact.0);
-        if piece.proposed {
-            piece
-        } else {
-            self.second.for_last(node, fact.1)
-        }
+        piece.or_else(|| self.second.for_last(node, fact.1))
     }
 
     fn sound(&self) {

@@ -33,7 +33,7 @@ without_some d (Some t) s q = by_test (t == d) refl q
   where
     by_test : (b : Bool) → (t == d) ≡ b → cond b None (Some t) ≡ Some s → (s ≢ d) × (Some t ≡ Some s)
     by_test true e q = no_piece s q
-    by_test false e q = (λ z. let u : t ≡ s = cc in eqb-false t d e (u ∙ z), q)
+    by_test false e q = let u : t ≡ s = cc in (λ z. eqb-false t d e (u ∙ z), q)
 
 spared_some : (i d : ℕ) (o : Option ℕ) (s : ℕ) → cond (i == d) None (without d o) ≡ Some s → (i ≢ d) × (s ≢ d) × (o ≡ Some s)
 spared_some i d o s q = by_test (i == d) refl q

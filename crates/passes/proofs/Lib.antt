@@ -1,3 +1,4 @@
 pub mod Copied
+pub mod Joins
 pub mod Known
 pub mod Links

@@ -1,13 +1,14 @@
 -- Rows of sources: what keeps them well.
-use Rattle.std.specs.Prelude.{◌≡◌, ℕ, zero, suc, ◌<◌, ◌≤◌, Bool, true, false, cond, not, ltb, [], ◌∷◌, map, length, Some, None, Option, ◌==◌, ◌≢◌, nat_lt, slice_index_or, slice_set, refl}
+use Rattle.std.specs.Prelude.{◌≡◌, ℕ, ◌<◌, Bool, true, false, cond, not, ltb, map, length, Some, None, Option, ◌==◌, ◌≢◌, nat_lt, slice_set, refl}
 use Rattle.std.proofs.Common.{sym, ap, ◌∙◌, arith, length-set}
+use Rattle.std.proofs.Math.ListN.{get_or-map}
 use Rattle.std.proofs.lemmas.List.{length-map}
 use Rattle.std.proofs.lemmas.Bool.{eqb-true, eqb-false, ne_eqb, ltb-true, ltb-false, lt-ltb, and_parts, and_from, not_from_false, cond_both}
 use Rattle.script.specs.declared.register.Register.{Register}
 use Rattle.script.proofs.Same.{same_register}
 use Rattle.script.specs.Limits.{registers}
-use Rattle.passes.specs.Sources.{Row, source, fine, well, shared, common, without, killed, moved, register_if, register_of}
-use Rattle.pass.proofs.Rows.{get_or_set_at, row_all}
+use Rattle.passes.specs.Sources.{Row, source, fine, well, without, killed, moved, register_if, register_of}
+use Rattle.pass.proofs.Rows.{get_or_set_at}
 use Rattle.passes.specs.SourcesLaws.{well_at, well_from}
 
 pub fine_below : (i n : ℕ) → fine i (Some n) ≡ true → n < registers
@@ -23,17 +24,12 @@ without_fine : (i d : ℕ) (o : Option ℕ) → fine i o ≡ true → fine i (wi
 without_fine i d None h = refl
 without_fine i d (Some s) h = cond_both (s == d) None (Some s) (λ o. fine i o ≡ true) (λ q. refl) (λ q. h)
 
-get_or_without : (d : ℕ) (r : Row) (i : ℕ) → slice_index_or (map (without d) r) i None ≡ without d (slice_index_or r i None)
-get_or_without d [] i = refl
-get_or_without d (x ∷ r) zero = refl
-get_or_without d (x ∷ r) (suc i) = get_or_without d r i
-
 pub length_killed : (r : Row) (d : ℕ) → length (killed r d) ≡ length r
 length_killed r d = length-set (map (without d) r) d None ∙ length-map r (without d)
 
 pub killed_at : (r : Row) (d i : ℕ) → d < length r → source (killed r d) i ≡ cond (i == d) None (without d (source r i))
 killed_at r d i h =
-    get_or_set_at (map (without d) r) d i None None (omega (arith, length-map r (without d))) ∙ ap (cond (i == d) None) (get_or_without d r i)
+    get_or_set_at (map (without d) r) d i None None (omega (arith, length-map r (without d))) ∙ ap (cond (i == d) None) (get_or-map (without d) r i None)
 
 pub killed_well : (r : Row) (d : ℕ) → d < length r → well r ≡ true → well (killed r d) ≡ true
 killed_well r d l w =
@@ -67,8 +63,3 @@ register_if_some n false e s q = let z : ◌≡◌ {A = ℕ} 0 1 = cc in absurd 
 pub register_of_some : (o : Option ℕ) (s : Register) → register_of o ≡ Some s → o ≡ Some s.index
 register_of_some None s q = let z : ◌≡◌ {A = ℕ} 0 1 = cc in absurd (omega arith)
 register_of_some (Some n) s q = ap Some (register_if_some n (nat_lt n registers) refl s q)
-
--- ---- the ends of the loops
-
-pub common_all : (r q t : Row) (i : ℕ) → length t ≡ registers → registers ≤ i → ((k : ℕ) → k < i → source t k ≡ shared r q k) → t ≡ common r q
-common_all r q t i l b h = row_all (shared r q) t None l (λ k a. h k (omega arith))

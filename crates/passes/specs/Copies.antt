@@ -12,7 +12,7 @@
 --   last_from_sources n r the same of a last node
 --   in_place m f          the piece for m
 --   in_place_last n f     the piece for n
-use Rattle.std.specs.Prelude.{◌≡◌, ℕ, ◌<◌, Bool, true, cond, ◌&&◌, List, [], ◌∷◌, length, replicate, is_some, Some, None, count_by, Option}
+use Rattle.std.specs.Prelude.{◌≡◌, ℕ, ◌<◌, Bool, true, cond, ◌&&◌, List, [], ◌∷◌, length, replicate, is_some, Some, None, count_by, Option, nat_eq}
 use Rattle.script.specs.declared.register.Register.{Register}
 use Rattle.script.specs.declared.node.Operation.{Operation}
 use Rattle.script.specs.declared.node.Middle.{Middle}
@@ -23,7 +23,8 @@ use Rattle.script.specs.Limits.{registers}
 use Rattle.script.specs.Run.{File}
 use Rattle.pass.specs.declared.edge.Edge.{Edge}
 use Rattle.passes.specs.declared.copies.PlainSources.{PlainSources}
-use Rattle.passes.specs.Sources.{Row, source, well, common, differ, row_after, source_of}
+use Rattle.passes.specs.Shared.{common, differ}
+use Rattle.passes.specs.Sources.{Row, source, well, row_after, source_of}
 
 pub record Valid (f : PlainSources) : Type 0 where
   pub all : length f.row ≡ registers
@@ -46,7 +47,7 @@ none = record { row = replicate registers None }
 abbrev pub meet : PlainSources → PlainSources → PlainSources × Bool
 meet old new =
     cond (well old.row && well new.row)
-    (record { row = common old.row new.row }, differ old.row new.row)
+    (record { row = common nat_eq old.row new.row }, differ nat_eq old.row new.row)
     (none, true)
 
 abbrev pub after : Middle → PlainSources → PlainSources

@@ -1,29 +1,24 @@
--- What two facts have in common, each of them has; and where nothing drops, it is all that the first has. They are
--- proofs, and stand here for the laws of the two lattices.
-use Rattle.std.specs.Prelude.{◌≡◌, Bool, true, false, cond, not, is_some, Some, None, Option, refl}
-use Rattle.std.proofs.Common.{sym, ap, ◌∙◌}
-use Rattle.std.proofs.lemmas.Bool.{both_ways}
+-- What two facts have in common, each of them has; where nothing is lost it is all that the first has, and otherwise it is
+-- less. They are proofs, and stand here for the laws of the two lattices.
+use Rattle.std.specs.Prelude.{◌≡◌, ℕ, ◌<◌, Bool, true, false, cond, not, List, length, is_some, Some, None, Option, count_by, refl}
+use Rattle.std.proofs.Common.{sym, ap, ◌∙◌, arith}
+use Rattle.std.proofs.lemmas.Bool.{both_ways, and_parts, not-true}
+use Rattle.std.proofs.lemmas.Option.{cond_some}
+use Rattle.script.specs.Limits.{registers}
 use Rattle.pass.proofs.Proposals.{no_piece}
-use Rattle.passes.specs.Shared.{both, drops}
+use Rattle.pass.proofs.Rows.{length_row, get_or_row, row_all, some_false, some_true, fewer}
+use Rattle.passes.specs.Shared.{at, both, drops, shared, lost, common, differ}
 
 module _ {X : Type 0} (same : X → X → Bool) where
   pub both_left : (a b : Option X) (x : X) → both same a b ≡ Some x → a ≡ Some x
   both_left None b x q = q
   both_left (Some a) None x q = no_piece x q
-  both_left (Some a) (Some b) x q = by_test (same a b) q
-    where
-      by_test : (t : Bool) → cond t (Some a) None ≡ Some x → Some a ≡ Some x
-      by_test true q = q
-      by_test false q = no_piece x q
+  both_left (Some a) (Some b) x q = ap Some (cond_some (same a b) a x q).1
 
   pub both_right : ((x y : X) → same x y ≡ true → x ≡ y) → (a b : Option X) (x : X) → both same a b ≡ Some x → b ≡ Some x
   both_right h None b x q = no_piece x q
   both_right h (Some a) None x q = no_piece x q
-  both_right h (Some a) (Some b) x q = by_test (same a b) refl q
-    where
-      by_test : (t : Bool) → same a b ≡ t → cond t (Some a) None ≡ Some x → Some b ≡ Some x
-      by_test true e q = ap Some (sym (h a b e)) ∙ q
-      by_test false e q = no_piece x q
+  both_right h (Some a) (Some b) x q = let t = cond_some (same a b) a x q in ap Some (sym (h a b t.0) ∙ t.1)
 
   pub undropped : (a b : Option X) → drops same a b ≡ false → a ≡ both same a b
   undropped None b q = refl
@@ -37,3 +32,29 @@ module _ {X : Type 0} (same : X → X → Bool) where
   pub some_left : (a b : Option X) → is_some (both same a b) ≡ true → is_some a ≡ true
   some_left None b q = q
   some_left (Some a) b q = refl
+
+  -- ---- rows
+
+  module _ (r q : List (Option X)) where
+    pub common_at : (i : ℕ) → i < registers → at (common same r q) i ≡ shared same r q i
+    common_at i h = get_or_row (shared same r q) i None h
+
+    pub common_left : (i : ℕ) → i < registers → (x : X) → at (common same r q) i ≡ Some x → at r i ≡ Some x
+    common_left i h x e = both_left (at r i) (at q i) x (sym (common_at i h) ∙ e)
+
+    pub common_right : ((x y : X) → same x y ≡ true → x ≡ y) → (i : ℕ) → i < registers → (x : X) → at (common same r q) i ≡ Some x → at q i ≡ Some x
+    common_right s i h x e = both_right s (at r i) (at q i) x (sym (common_at i h) ∙ e)
+
+    pub unchanged : length r ≡ registers → differ same r q ≡ false → common same r q ≡ r
+    unchanged l e = sym (row_all (shared same r q) r None l (λ k h. undropped (at r k) (at q k) (some_false (lost same r q) registers e k h)))
+
+    pub falls : length r ≡ registers → differ same r q ≡ true → count_by is_some (common same r q) < count_by is_some r
+    falls l e =
+        let n = length_row (shared same r q) in
+        let t = some_true (lost same r q) registers e in
+        let u = and_parts (is_some (at r t.0)) (not (is_some (shared same r q t.0))) t.2 in
+        let b : t.0 < length (common same r q) = omega (arith, n, t.1) in
+        fewer is_some None r (common same r q) (l ∙ sym n)
+        (λ k h d. some_left (at r k) (at q k) (ap is_some (sym (common_at k (omega (arith, n, h)))) ∙ d))
+        t.0 b u.0
+        (ap is_some (common_at t.0 t.1) ∙ not-true (is_some (shared same r q t.0)) u.1)

@@ -3,29 +3,25 @@
 --   source r i        the source of register i in the row r
 --   fine i o          o is none, or a register other than i
 --   well r            no register is its own source, and every source is a register
---   shared r q i      the source of register i that both rows have
---   lost r q i        r has a source there that q has not
---   common r q        the sources that both rows have
---   differ r q        whether these are fewer than r has
 --   without d o       the source o, unless it is d
 --   killed r d        r after register d is written: d has no source, and is the source of none
 --   moved r d a       r after `mov d a`
 --   row_after m r     r after the middle node m
 --   source_of r a     the source of the register a, as a register
-use Rattle.std.specs.Prelude.{◌≡◌, ℕ, Bool, true, false, cond, not, ◌&&◌, List, map, Some, None, Option, ◌==◌, nat_eq, nat_lt, slice_index_or, slice_set, refl}
+use Rattle.std.specs.Prelude.{◌≡◌, ℕ, Bool, true, false, cond, not, ◌&&◌, List, map, Some, None, Option, ◌==◌, nat_lt, slice_set, refl}
 use Rattle.std.proofs.Common.{ltb-true}
 use Rattle.script.specs.declared.register.Register.{Register}
 use Rattle.script.specs.declared.node.Middle.{Middle}
 use Rattle.script.specs.declared.node.Middle.TheVariants.{Set, Mov, Compute, Get, Put}
 use Rattle.script.specs.Limits.{registers}
-use Rattle.pass.specs.Rows.{row, some, every}
-use Rattle.passes.specs.Shared.{both, drops}
+use Rattle.pass.specs.Rows.{every}
+use Rattle.passes.specs.Shared.{at}
 
 abbrev pub Row : Type 0
 Row = List (Option ℕ)
 
 abbrev pub source : Row → ℕ → Option ℕ
-source r i = slice_index_or r i None
+source r i = at r i
 
 abbrev pub fine : ℕ → Option ℕ → Bool
 fine i None = true
@@ -33,18 +29,6 @@ fine i (Some s) = nat_lt s registers && not (s == i)
 
 abbrev pub well : Row → Bool
 well r = every (λ i. fine i (source r i)) registers
-
-abbrev pub shared : Row → Row → ℕ → Option ℕ
-shared r q i = both nat_eq (source r i) (source q i)
-
-abbrev pub lost : Row → Row → ℕ → Bool
-lost r q i = drops nat_eq (source r i) (source q i)
-
-abbrev pub common : Row → Row → Row
-common r q = row (shared r q)
-
-abbrev pub differ : Row → Row → Bool
-differ r q = some (lost r q) registers
 
 abbrev pub without : ℕ → Option ℕ → Option ℕ
 without d None = None

@@ -5,9 +5,10 @@ use Rattle.std.proofs.Common.{ap, ◌∙◌}
 use Rattle.std.proofs.lemmas.Bool.{cond_both}
 use Rattle.script.specs.Limits.{registers}
 use Rattle.pass.specs.Rows.{every}
-use Rattle.passes.specs.Shared.{both}
-use Rattle.passes.specs.Sources.{Row, source, fine, well, shared, common}
-use Rattle.pass.proofs.Rows.{get_or_row, every_true, every_from}
+use Rattle.passes.specs.Shared.{both, common}
+use Rattle.passes.specs.SharedLaws.{common_at}
+use Rattle.passes.specs.Sources.{Row, source, fine, well}
+use Rattle.pass.proofs.Rows.{every_true, every_from}
 
 pub well_at : (r : Row) → well r ≡ true → (i : ℕ) → i < registers → fine i (source r i) ≡ true
 well_at r w i h = every_true (λ k. fine k (source r k)) registers w i h
@@ -24,5 +25,5 @@ both_fine i None b h = refl
 both_fine i (Some a) None h = refl
 both_fine i (Some a) (Some b) h = cond_both (a == b) (Some a) None (λ o. fine i o ≡ true) (λ q. h) (λ q. refl)
 
-pub common_well : (r q : Row) → well r ≡ true → well (common r q) ≡ true
-common_well r q w = well_from (common r q) (λ i h. ap (fine i) (get_or_row (shared r q) i None h) ∙ both_fine i (source r i) (source q i) (well_at r w i h))
+pub common_well : (r q : Row) → well r ≡ true → well (common nat_eq r q) ≡ true
+common_well r q w = well_from (common nat_eq r q) (λ i h. ap (fine i) (common_at nat_eq r q i h) ∙ both_fine i (source r i) (source q i) (well_at r w i h))

@@ -1,76 +1,42 @@
 // The pass of constants: which registers hold a known number.
-ghost use Rattle.std.specs.Prelude.{◌≡◌, ◌<◌};
-ghost use Rattle.script.specs.Arithmetic.{same as same_number};
-ghost use Rattle.script.specs.Limits.{registers};
+ghost use Rattle.std.specs.Prelude.{◌≡◌};
 ghost use Rattle.pass.specs.Pieces.{middle_piece, last_piece};
-ghost use Rattle.passes.specs.Shared.{both as both_know};
 ghost use Rattle.passes.specs.Constants.{Valid, Cautious, Admits, how_many, all_zero, meet, known_as, becomes as becomes_fact, combined as combined_number, after as after_fact, along as along_fact, sets as sets_piece, in_place, goes as goes_piece, in_place_last};
 ghost use Rattle.passes.specs.ConstantsLaws;
 
+use crate::rows::{self, Row};
 use pass::edge::Edge;
 use pass::forward::ForwardPass;
 use pass::lattice::Lattice;
-use pass::piece::{LastPiece, MiddlePiece};
+use pass::piece::{self, LastPiece, MiddlePiece};
 use script::arithmetic::compute;
 use script::limits::EACH_REGISTER;
 use script::node::{Last, Middle, Operation};
 use script::register::Register;
 
-// Which registers hold a known number, and which number. In a fact an unknown register carries 0.
+// For each register its number, where it is known.
 #[derive(Clone, Copy)]
 pub struct Numbers {
-    pub known: [bool; EACH_REGISTER],
-    pub number: [i32; EACH_REGISTER],
+    pub row: Row<i32>,
 }
 
 #[derive(Clone, Copy)]
 pub struct Constants;
 
-fn same(a: i32, b: i32) -> bool
-    ensures { result ≡ same_number a b }
-{
-    a == b
-}
-
-// The number that both know, where they know the same one.
-fn both(a: Option<i32>, b: Option<i32>) -> Option<i32>
-    ensures { result ≡ both_know same_number a b }
-{
-    match (a, b) {
-        (Some(x), Some(y)) if same(x, y) => Some(x),
-        _ => None,
-    }
-}
-
 impl Numbers {
-    // The number of the register with this index, if it is known.
-    fn at(&self, i: usize) -> Option<i32>
-        requires { i < registers }
-        ensures { result ≡ known_as self.now i }
-    {
-        if self.known[i] {
-            Some(self.number[i])
-        } else {
-            None
-        }
-    }
-
     // The number of a register, if it is known.
     fn of(&self, register: Register) -> Option<i32>
         ensures { result ≡ known_as self.now register.index }
     {
-        self.at(register.index as usize)
+        self.row[register.index as usize]
     }
 
     // The fact once a register holds a number that is known or not.
-    fn becomes(self, register: Register, number: Option<i32>) -> Numbers
+    fn becomes(mut self, register: Register, number: Option<i32>) -> Numbers
         ensures { result ≡ becomes_fact self register.index number }
     {
-        let i = register.index as usize;
-        let mut fact = self;
-        fact.known[i] = number.is_some();
-        fact.number[i] = number.unwrap_or(0);
-        fact
+        self.row[register.index as usize] = number;
+        self
     }
 }
 
@@ -78,33 +44,27 @@ impl Numbers {
 fn combined(operation: Operation, left: Option<i32>, right: Option<i32>) -> Option<i32>
     ensures { result ≡ combined_number operation left right }
 {
-    match (left, right) {
-        (Some(a), Some(b)) => Some(compute(operation, a, b)),
-        _ => None,
-    }
+    Some(compute(operation, left?, right?))
 }
 
 // `set d k`, where k is known.
-fn sets(to: Register, number: Option<i32>) -> MiddlePiece
+fn sets(to: Register, number: Option<i32>) -> Option<MiddlePiece>
     ensures { middle_piece result ≡ sets_piece to number }
 {
-    match number {
-        Some(value) => MiddlePiece::one(Middle::Set { to, value }),
-        None => MiddlePiece::none(),
-    }
+    let value = number?;
+    Some(piece::one(Middle::Set { to, value }))
 }
 
 // `go`, where the number that is tested is known, or both ways lead to one block.
-fn goes(then: u8, other: u8, number: Option<i32>) -> LastPiece
+fn goes(then: u8, other: u8, number: Option<i32>) -> Option<LastPiece>
     ensures { last_piece result ≡ goes_piece then other number }
 {
-    match number {
-        Some(value) => LastPiece::only(Last::Go {
-            target: if same(value, 0) { other } else { then },
-        }),
-        None if then == other => LastPiece::only(Last::Go { target: then }),
-        None => LastPiece::none(),
-    }
+    let target = match number {
+        Some(value) => if value == 0 { other } else { then },
+        None if then == other => then,
+        None => return None,
+    };
+    Some(LastPiece::only(Last::Go { target }))
 }
 
 impl Lattice for Constants {
@@ -124,23 +84,13 @@ impl Lattice for Constants {
 
     fn start(&self) -> Numbers {
         Numbers {
-            known: [true; EACH_REGISTER],
-            number: [0; EACH_REGISTER],
+            row: [Some(0); EACH_REGISTER],
         }
     }
 
     fn join(&self, old: Numbers, new: Numbers) -> (Numbers, bool) {
-        let mut known = old.known;
-        let mut number = old.number;
-        let mut differs = false;
-        for i in 0..EACH_REGISTER {
-            let before = old.at(i);
-            let shared = both(before, new.at(i));
-            known[i] = shared.is_some();
-            number[i] = shared.unwrap_or(0);
-            differs |= before.is_some() & !shared.is_some();
-        }
-        (Numbers { known, number }, differs)
+        let (row, differs) = rows::join(old.row, new.row);
+        (Numbers { row }, differs)
     }
 }
 
@@ -171,16 +121,13 @@ impl ForwardPass for Constants {
     }
 
     fn along(&self, node: Last, edge: Edge, fact: Numbers) -> Numbers {
-        match node {
-            Last::If { test, .. } => match edge {
-                Edge::First => fact,
-                Edge::Second => fact.becomes(test, Some(0)),
-            },
-            Last::Go { .. } | Last::End { .. } => fact,
+        match (node, edge) {
+            (Last::If { test, .. }, Edge::Second) => fact.becomes(test, Some(0)),
+            _ => fact,
         }
     }
 
-    fn for_middle(&self, node: Middle, fact: Numbers) -> MiddlePiece {
+    fn for_middle(&self, node: Middle, fact: Numbers) -> Option<MiddlePiece> {
         match node {
             Middle::Mov { to, from } => sets(to, fact.of(from)),
             Middle::Compute {
@@ -189,14 +136,14 @@ impl ForwardPass for Constants {
                 left,
                 right,
             } => sets(to, combined(operation, fact.of(left), fact.of(right))),
-            Middle::Set { .. } | Middle::Get { .. } | Middle::Put { .. } => MiddlePiece::none(),
+            Middle::Set { .. } | Middle::Get { .. } | Middle::Put { .. } => None,
         }
     }
 
-    fn for_last(&self, node: Last, fact: Numbers) -> LastPiece {
+    fn for_last(&self, node: Last, fact: Numbers) -> Option<LastPiece> {
         match node {
             Last::If { test, then, other } => goes(then, other, fact.of(test)),
-            Last::Go { .. } | Last::End { .. } => LastPiece::none(),
+            Last::Go { .. } | Last::End { .. } => None,
         }
     }
 

@@ -4,19 +4,29 @@ ghost use Rattle.pass.specs.Pieces.{middle_piece, last_piece};
 ghost use Rattle.passes.specs.Copies.{Valid, Cautious, Admits, how_many, none, meet, after as after_fact, along as along_fact, from_sources, last_from_sources, in_place, in_place_last};
 ghost use Rattle.passes.specs.CopiesLaws;
 
+use crate::rows::Row;
 use crate::sources::Sources;
 use pass::edge::Edge;
 use pass::forward::ForwardPass;
 use pass::lattice::Lattice;
-use pass::piece::{LastPiece, MiddlePiece};
+use pass::piece::{self, LastPiece, MiddlePiece};
 use script::limits::EACH_REGISTER;
 use script::node::{Last, Middle};
 
-// For each register its source: the index of another register, or none. A plain row; `Sources` is made from it after a
-// check.
+// For each register its source: the index of another register, or none. Facts lie in memory that callers lend, so the
+// elements are plain numbers, of which nothing is known; `Sources` is made from the row after a check.
 #[derive(Clone, Copy)]
 pub struct PlainSources {
-    pub row: [Option<u8>; EACH_REGISTER],
+    pub row: Row<u8>,
+}
+
+impl From<Sources> for PlainSources {
+    ghost from_gives = { λ sources plain. plain.row ≡ sources.row };
+
+    fn from(sources: Sources) -> PlainSources {
+        let row = sources.row;
+        PlainSources { row }
+    }
 }
 
 #[derive(Clone, Copy)]
@@ -32,70 +42,57 @@ fn nothing() -> PlainSources
 }
 
 // The node with each read of a register that has a source replaced by that source.
-fn middle_from(sources: &Sources, node: Middle) -> MiddlePiece
+fn middle_from(sources: &Sources, node: Middle) -> Option<MiddlePiece>
     ensures { middle_piece result ≡ from_sources node sources.now.row }
 {
     match node {
-        Middle::Mov { to, from } => match sources.of(from) {
-            Some(a) => MiddlePiece::one(Middle::Mov { to, from: a }),
-            None => MiddlePiece::none(),
-        },
+        Middle::Mov { to, from } => {
+            let source = sources.of(from)?;
+            Some(piece::one(Middle::Mov { to, from: source }))
+        }
         Middle::Compute {
             operation,
             to,
             left,
             right,
-        } => match sources.of(left) {
-            Some(a) => match sources.of(right) {
-                Some(b) => MiddlePiece::one(Middle::Compute {
-                    operation,
-                    to,
-                    left: a,
-                    right: b,
-                }),
-                None => MiddlePiece::one(Middle::Compute {
-                    operation,
-                    to,
-                    left: a,
-                    right,
-                }),
-            },
-            None => match sources.of(right) {
-                Some(b) => MiddlePiece::one(Middle::Compute {
-                    operation,
-                    to,
-                    left,
-                    right: b,
-                }),
-                None => MiddlePiece::none(),
-            },
-        },
-        Middle::Put { from } => match sources.of(from) {
-            Some(a) => MiddlePiece::one(Middle::Put { from: a }),
-            None => MiddlePiece::none(),
-        },
-        Middle::Set { .. } | Middle::Get { .. } => MiddlePiece::none(),
+        } => {
+            let (a, b) = (sources.of(left), sources.of(right));
+            if a.is_none() && b.is_none() {
+                return None;
+            }
+            Some(piece::one(Middle::Compute {
+                operation,
+                to,
+                left: a.unwrap_or(left),
+                right: b.unwrap_or(right),
+            }))
+        }
+        Middle::Put { from } => {
+            let source = sources.of(from)?;
+            Some(piece::one(Middle::Put { from: source }))
+        }
+        Middle::Set { .. } | Middle::Get { .. } => None,
     }
 }
 
 // The same for a last node.
-fn last_from(sources: &Sources, node: Last) -> LastPiece
+fn last_from(sources: &Sources, node: Last) -> Option<LastPiece>
     ensures { last_piece result ≡ last_from_sources node sources.now.row }
 {
     match node {
-        Last::If { test, then, other } => match sources.of(test) {
-            Some(a) => LastPiece::only(Last::If {
-                test: a,
+        Last::If { test, then, other } => {
+            let source = sources.of(test)?;
+            Some(LastPiece::only(Last::If {
+                test: source,
                 then,
                 other,
-            }),
-            None => LastPiece::none(),
-        },
-        Last::End { from } => match sources.of(from) {
-            Some(a) => LastPiece::only(Last::End { from: a }),
-            None => LastPiece::none(),
-        },
-        Last::Go { .. } => LastPiece::none(),
+            }))
+        }
+        Last::End { from } => {
+            let source = sources.of(from)?;
+            Some(LastPiece::only(Last::End { from: source }))
+        }
+        Last::Go { .. } => None,
     }
 }
 
@@ -119,15 +116,11 @@ impl Lattice for Copies {
     }
 
     fn join(&self, old: PlainSources, new: PlainSources) -> (PlainSources, bool) {
-        let Some(a) = Sources::checked(old.row) else {
-            return (nothing(), true);
-        };
-        let Some(b) = Sources::checked(new.row) else {
+        let (Some(a), Some(b)) = (Sources::checked(old.row), Sources::checked(new.row)) else {
             return (nothing(), true);
         };
         let (both, differs) = a.join(&b);
-        let row = both.row;
-        (PlainSources { row }, differs)
+        (both.into(), differs)
     }
 }
 
@@ -144,10 +137,7 @@ impl ForwardPass for Copies {
 
     fn after(&self, node: Middle, fact: PlainSources) -> PlainSources {
         match Sources::checked(fact.row) {
-            Some(before) => {
-                let row = before.after(node).row;
-                PlainSources { row }
-            }
+            Some(before) => before.after(node).into(),
             None => nothing(),
         }
     }
@@ -156,18 +146,14 @@ impl ForwardPass for Copies {
         fact
     }
 
-    fn for_middle(&self, node: Middle, fact: PlainSources) -> MiddlePiece {
-        match Sources::checked(fact.row) {
-            Some(sources) => middle_from(&sources, node),
-            None => MiddlePiece::none(),
-        }
+    fn for_middle(&self, node: Middle, fact: PlainSources) -> Option<MiddlePiece> {
+        let sources = Sources::checked(fact.row)?;
+        middle_from(&sources, node)
     }
 
-    fn for_last(&self, node: Last, fact: PlainSources) -> LastPiece {
-        match Sources::checked(fact.row) {
-            Some(sources) => last_from(&sources, node),
-            None => LastPiece::none(),
-        }
+    fn for_last(&self, node: Last, fact: PlainSources) -> Option<LastPiece> {
+        let sources = Sources::checked(fact.row)?;
+        last_from(&sources, node)
     }
 
     fn sound(&self) {}

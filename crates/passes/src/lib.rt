@@ -6,4 +6,5 @@
 
 pub mod constants;
 pub mod copies;
+mod rows;
 mod sources;
