@@ -1,7 +1,7 @@
 use Rattle.std.proofs.Common.{◌+◌, [], ◌∷◌, ◌++◌, length, drop, vec_items, arith}
 use Rattle.script.specs.Model.{program_of}
 use Rattle.script.specs.Run.{Block}
-use Rattle.script.proofs.Blocks.{blocks_many, middles_counted}
+use Rattle.script.proofs.Stored.{blocks_many, middles_counted}
 use Rattle.writer.specs.Text.{count_text, counts_text, counts}
 use Rattle.writer.proofs.Puts.{sofar_more, sofar_none, sofar_all}
 use Rattle.writer.proofs.Texts.{found_some, found_small, counts_step, counts_end}

@@ -3,7 +3,7 @@ use Rattle.script.specs.Model.{program_of}
 use Rattle.writer.specs.Wrote.{Wrote}
 use Rattle.writer.specs.Text.{header_text, counts_text, counts, bodies_text}
 use Rattle.writer.proofs.Puts.{wrote_then, wrote_none}
-use Rattle.script.proofs.Blocks.{blocks_many}
+use Rattle.script.proofs.Stored.{blocks_many}
 use Rattle.writer.proofs.Texts.{text_splits}
 use Rattle.writer.proofs.whole.put_text.Goals as goal
 
