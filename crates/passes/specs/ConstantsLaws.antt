@@ -1,17 +1,16 @@
 -- The laws of the lattice of constants. They are proofs, and stand here because the impl in src/ gives them as its
 -- `lawful`.
-use Rattle.std.specs.Prelude.{◌≡◌, ℕ, ◌<◌, true, false, ℤ, pos, negsuc, Some, None, Option, FitsSigned, refl}
+use Rattle.std.specs.Prelude.{◌≡◌, ℕ, ◌<◌, true, false, ℤ, pos, negsuc, Some, None, FitsSigned, refl}
 use Rattle.std.proofs.Common.{sym, ap, subst, lit<}
 use Rattle.std.specs.Int.{w32}
 use Rattle.std.proofs.lemmas.List.{get_or-replicate}
-use Rattle.std.proofs.lemmas.Bool.{both_ways, eqb-true, cond_both}
+use Rattle.std.proofs.lemmas.Bool.{both_ways, eqb-true}
 use Rattle.script.specs.Arithmetic.{same}
 use Rattle.script.specs.Limits.{registers}
 use Rattle.pass.specs.Lattices.{LatticeLaws}
 use Rattle.pass.proofs.Rows.{length_row}
-use Rattle.passes.specs.declared.constants.Numbers.{Numbers}
-use Rattle.passes.specs.Shared.{both, shared}
-use Rattle.passes.specs.SharedLaws.{common_at, common_left, common_right, unchanged, falls}
+use Rattle.passes.specs.Shared.{shared}
+use Rattle.passes.specs.SharedLaws.{common_keeps, common_left, common_right, unchanged, falls}
 use Rattle.passes.specs.Constants.{FitsIf, Valid, Cautious, how_many, all_zero, meet, known_as}
 
 same_true : (a b : ℤ) → same a b ≡ true → a ≡ b
@@ -26,19 +25,11 @@ zero_fits = record { sfits = lit< tt }
 pub zero_known : (i : ℕ) → i < registers → known_as all_zero i ≡ Some (pos 0)
 zero_known i h = get_or-replicate registers i (Some (pos 0)) None h
 
-shared_fits : (a b : Option ℤ) → FitsIf a → FitsIf (both same a b)
-shared_fits None b f = tt
-shared_fits (Some a) None f = tt
-shared_fits (Some a) (Some b) f = cond_both (same a b) (Some a) None FitsIf (λ q. f) (λ q. tt)
-
-joined_fits : (old new : Numbers) → Valid old → (i : ℕ) → i < registers → FitsIf (known_as (meet old new).0 i)
-joined_fits old new v i h = subst FitsIf (sym (common_at same old.row new.row i h)) (shared_fits (known_as old i) (known_as new i) (v.fits i h))
-
 pub lattice : LatticeLaws Valid Cautious how_many all_zero meet
 lattice =
     record {
       start_valid = record { all = refl; fits = λ i h. subst FitsIf (sym (zero_known i h)) zero_fits };
-      join_valid = λ old new v w. record { all = length_row (shared same old.row new.row); fits = joined_fits old new v };
+      join_valid = λ old new v w. record { all = length_row (shared same old.row new.row); fits = λ i h. common_keeps same old.row new.row FitsIf tt i h (v.fits i h) };
       reflexive = λ f v i h k e. e;
       transitive = λ f g h u v w p q i b k e. q i b k (p i b k e);
       over_old = λ old new v w. common_left same old.row new.row;
