@@ -1,6 +1,7 @@
 -- What a proposal shows, for passes that propose one node in place of another.
 use Rattle.std.proofs.Common.{◌≡◌, ℕ, List, [], ◌∷◌, Some, None, Option, refl, ◌∙◌, subst, arith}
 use Rattle.std.proofs.lemmas.List.{append-nil}
+use Rattle.std.proofs.lemmas.Option.{none-some}
 use Rattle.script.specs.declared.node.Middle.{Middle}
 use Rattle.script.specs.declared.node.Last.{Last}
 use Rattle.script.specs.Run.{File, Words, Fit, step, puts, leaves}
@@ -9,7 +10,7 @@ use Rattle.pass.specs.Forward.{MiddleAgrees, LastAgrees}
 
 -- none is no piece
 pub no_piece : {T A : Type 0} (t : T) → None ≡ Some t → A
-no_piece t q = let z : ◌≡◌ {A = ℕ} 0 1 = cc in absurd (omega arith)
+no_piece t q = absurd (none-some t q)
 
 -- one node that does what m does
 pub one_agrees : (m n : Middle) (P : File → Type 0) → Fit n → ((slots e : File) → Words slots → Words e → P e → (puts n e ≡ puts m e) × (step slots n e ≡ step slots m e)) → (ms : List Middle) → Some (n ∷ []) ≡ Some ms → MiddleAgrees m ms P

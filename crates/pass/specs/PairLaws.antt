@@ -3,21 +3,22 @@
 --   both_lattice l m p   of lawful l and m, the lattice of pairs at p is lawful: what `Pair` gives as its `lawful`
 use Rattle.std.specs.Prelude.{◌≡◌, ℕ, ◌+◌, ◌<◌, Bool, true, false, ◌||◌, refl}
 use Rattle.std.proofs.Common.{ap, arith}
+use Rattle.std.proofs.lemmas.Bool.{both_ways, or_parts}
 use Rattle.pass.specs.declared.lattice.Lattice.{Ghosts as LatticeOf}
 use Rattle.pass.specs.declared.pair.Pair.{Pair}
 use Rattle.pass.specs.Lawful.{LawfulLattice}
 use Rattle.pass.specs.Pairs.{paired_lattice}
 
 pair_same : {F G : Type 0} (c d : Bool) (a f : F) (b g : G) → (c ≡ false → a ≡ f) → (d ≡ false → b ≡ g) → (c || d) ≡ false → ◌≡◌ {A = F × G} (a, b) (f, g)
-pair_same true d a f b g h k e = let z : ◌≡◌ {A = ℕ} 0 1 = cc in absurd (omega arith)
-pair_same false true a f b g h k e = let z : ◌≡◌ {A = ℕ} 0 1 = cc in absurd (omega arith)
-pair_same false false a f b g h k e = λ i. (h refl i, k refl i)
+pair_same c d a f b g h k e =
+    let o = or_parts c d e in
+    λ i. (h o.0 i, k o.1 i)
 
 pair_falls : {F G : Type 0} (rf : F → ℕ) (rg : G → ℕ) (c d : Bool) (a f : F) (b g : G) → (c ≡ false → a ≡ f) → (d ≡ false → b ≡ g) → (c ≡ true → rf a < rf f) → (d ≡ true → rg b < rg g) → (c || d) ≡ true → rf a + rg b < rf f + rg g
 pair_falls rf rg true true a f b g h k l m e = omega (arith, l refl, m refl)
 pair_falls rf rg true false a f b g h k l m e = omega (arith, l refl, ap rg (k refl))
 pair_falls rf rg false true a f b g h k l m e = omega (arith, m refl, ap rf (h refl))
-pair_falls rf rg false false a f b g h k l m e = let z : ◌≡◌ {A = ℕ} 0 1 = cc in absurd (omega arith)
+pair_falls rf rg false false a f b g h k l m e = absurd (both_ways false refl e)
 
 module _ {P Q F G : Type 0} (l : LatticeOf P F) (m : LatticeOf Q G) (p : Pair P Q) where
   pub both_lattice : LawfulLattice l p.first → LawfulLattice m p.second → LawfulLattice (paired_lattice l m) p

@@ -28,5 +28,6 @@ pub trait Lattice {
     fn join(&self, old: Self::Fact, new: Self::Fact) -> (Self::Fact, bool)
         ensures { result ≡ joined self.now old new };
 
+    // The members one by one: a definition over the trait's own record of them would import the trait, which imports it.
     ghost lawful: { (p : Self) → LatticeLaws (valid p) (cautious p) (rank p) (origin p) (joined p) };
 }

@@ -1,8 +1,9 @@
 // Each pass alone.
-use super::ways::{Example, differs, lasts_stand, middles_stand};
+use super::ways::{Example, differs, stand};
 use nonzero::NonZero;
 use passes::constants::Constants;
 use passes::copies::Copies;
+use script::node::{Last, Middle};
 use std::test::Fail;
 
 const CONSTANTS: &[Example] = &[
@@ -125,20 +126,20 @@ const NONZERO_LASTS: &[Example] = &[
 
 #[test]
 fn constants(rt: HostRuntime) -> Result<(), Fail> {
-    middles_stand(&rt, &Constants, CONSTANTS)?;
-    lasts_stand(&rt, &Constants, CONSTANT_LASTS)
+    stand::<Middle, _>(&rt, &Constants, CONSTANTS)?;
+    stand::<Last, _>(&rt, &Constants, CONSTANT_LASTS)
 }
 
 #[test]
 fn copies(rt: HostRuntime) -> Result<(), Fail> {
-    middles_stand(&rt, &Copies, COPIES)?;
-    lasts_stand(&rt, &Copies, COPY_LASTS)
+    stand::<Middle, _>(&rt, &Copies, COPIES)?;
+    stand::<Last, _>(&rt, &Copies, COPY_LASTS)
 }
 
 #[test]
 fn registers_that_are_not_zero(rt: HostRuntime) -> Result<(), Fail> {
-    middles_stand(&rt, &NonZero, &[("set r1 5", "mov r2 r1", "")])?;
-    lasts_stand(&rt, &NonZero, NONZERO_LASTS)
+    stand::<Middle, _>(&rt, &NonZero, &[("set r1 5", "mov r2 r1", "")])?;
+    stand::<Last, _>(&rt, &NonZero, NONZERO_LASTS)
 }
 
 #[test]

@@ -7,8 +7,8 @@
 #[cfg(test)]
 mod alone;
 #[cfg(test)]
-mod paired;
+mod offered;
 #[cfg(test)]
-mod same;
+mod paired;
 #[cfg(test)]
 mod ways;

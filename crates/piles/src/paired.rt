@@ -1,9 +1,10 @@
 // Pairs, and pairs of pairs.
-use super::ways::{Example, differs, lasts_stand, middles_stand};
+use super::ways::{Example, differs, stand};
 use nonzero::NonZero;
 use pass::pair::Pair;
 use passes::constants::Constants;
 use passes::copies::Copies;
+use script::node::{Last, Middle};
 use std::test::Fail;
 
 fn pair<A, B>(first: A, second: B) -> Pair<A, B> {
@@ -14,7 +15,7 @@ fn pair<A, B>(first: A, second: B) -> Pair<A, B> {
 #[test]
 fn which_piece(rt: HostRuntime) -> Result<(), Fail> {
     let both = pair(Constants, Copies);
-    middles_stand(
+    stand::<Middle, _>(
         &rt,
         &both,
         &[
@@ -29,7 +30,7 @@ fn which_piece(rt: HostRuntime) -> Result<(), Fail> {
             ),
         ],
     )?;
-    lasts_stand(
+    stand::<Last, _>(
         &rt,
         &both,
         &[
@@ -43,7 +44,7 @@ fn which_piece(rt: HostRuntime) -> Result<(), Fail> {
             ("set r1 4|mov r2 r1", "end r2", "end r1"),
         ],
     )?;
-    middles_stand(
+    stand::<Middle, _>(
         &rt,
         &pair(Copies, Constants),
         &[("set r1 4|mov r2 r1", "mov r3 r2", "mov r3 r1")],
@@ -72,10 +73,10 @@ const PILE: &[Example] = &[
 #[test]
 fn piles(rt: HostRuntime) -> Result<(), Fail> {
     let three = pair(pair(Constants, Copies), NonZero);
-    lasts_stand(&rt, &three, PILE)?;
+    stand::<Last, _>(&rt, &three, PILE)?;
     let other = pair(Constants, pair(Copies, NonZero));
-    lasts_stand(&rt, &other, PILE)?;
+    stand::<Last, _>(&rt, &other, PILE)?;
     let deep = pair(pair(three, pair(Copies, Copies)), pair(other, three));
-    lasts_stand(&rt, &deep, PILE)?;
-    middles_stand(&rt, &deep, &[("get r1 0|mov r2 r1", "put r2", "put r1")])
+    stand::<Last, _>(&rt, &deep, PILE)?;
+    stand::<Middle, _>(&rt, &deep, &[("get r1 0|mov r2 r1", "put r2", "put r1")])
 }

@@ -3,11 +3,9 @@
 // A way is nodes from the beginning of a script, with a bar between two. A last node in it is followed by the edge that
 // the way takes, as in `if r1 b1 b2 first`. Where an ampersand stands between two ways, they meet, and what is known after
 // them is joined.
-use super::same::{same_last, same_middle};
-use nodes::{last, middle};
+use super::offered::Offered;
 use pass::edge::Edge;
 use pass::forward::ForwardPass;
-use pass::lattice::Lattice;
 use script::node::{Last, Middle};
 use std::process::Abort;
 use std::test::Fail;
@@ -16,29 +14,15 @@ use std::test::Fail;
 // must be no piece.
 pub type Example = (&'static str, &'static str, &'static str);
 
-fn middle_of(line: &str) -> Result<Middle, Fail> {
-    match middle(line.as_bytes(), 64) {
-        Ok(node) => Ok(node),
-        Err(_) => Err(Fail::new("no middle node")),
-    }
-}
-
-fn last_of(line: &str) -> Result<Last, Fail> {
-    match last(line.as_bytes(), 64) {
-        Ok(node) => Ok(node),
-        Err(_) => Err(Fail::new("no last node")),
-    }
-}
-
 // What is known after one more line of a way.
 fn beyond<P: ForwardPass>(pass: &P, line: &str, fact: P::Fact) -> Result<P::Fact, Fail> {
     if let Some((node, _)) = line.split_once(" first") {
-        return Ok(pass.along(last_of(node)?, Edge::First, fact));
+        return Ok(pass.along(Last::named(node)?, Edge::First, fact));
     }
     if let Some((node, _)) = line.split_once(" second") {
-        return Ok(pass.along(last_of(node)?, Edge::Second, fact));
+        return Ok(pass.along(Last::named(node)?, Edge::Second, fact));
     }
-    Ok(pass.after(middle_of(line)?, fact))
+    Ok(pass.after(Middle::named(line)?, fact))
 }
 
 // What is known after a way.
@@ -63,40 +47,23 @@ fn after_ways<P: ForwardPass>(pass: &P, ways: &str) -> Result<P::Fact, Fail> {
     }
 }
 
-// Whether a pass proposes for each middle node what it must.
-pub fn middles_stand<P: ForwardPass>(
-    rt: &impl Abort,
-    pass: &P,
-    examples: &[Example],
-) -> Result<(), Fail> {
-    for (ways, offered, expected) in examples {
-        let piece = pass.for_middle(middle_of(offered)?, after_ways(pass, ways)?);
-        assert!(rt; piece.proposed != expected.is_empty(), "{}", offered);
-        if piece.proposed {
-            assert!(rt; piece.count == 1, "{}", offered);
-            assert!(rt;
-                same_middle(piece.middles[0], middle_of(expected)?),
-                "{}",
-                offered
-            );
-        }
+// The piece that an example expects.
+fn expected<N: Offered>(node: &str) -> Result<Option<N::Piece>, Fail> {
+    if node.is_empty() {
+        return Ok(None);
     }
-    Ok(())
+    Ok(Some(N::named(node)?.alone()))
 }
 
-// Whether it proposes for each last node what it must.
-pub fn lasts_stand<P: ForwardPass>(
+// Whether a pass proposes for each node what it must.
+pub fn stand<N: Offered, P: ForwardPass>(
     rt: &impl Abort,
     pass: &P,
     examples: &[Example],
 ) -> Result<(), Fail> {
-    for (ways, offered, expected) in examples {
-        let piece = pass.for_last(last_of(offered)?, after_ways(pass, ways)?);
-        assert!(rt; piece.proposed != expected.is_empty(), "{}", offered);
-        if piece.proposed {
-            assert!(rt; piece.count == 0, "{}", offered);
-            assert!(rt; same_last(piece.last, last_of(expected)?), "{}", offered);
-        }
+    for (ways, offered, proposed) in examples {
+        let piece = N::named(offered)?.piece(pass, after_ways(pass, ways)?);
+        assert_eq!(rt; piece, expected::<N>(proposed)?, "{offered}");
     }
     Ok(())
 }
