@@ -15,6 +15,6 @@ module _ {F : Type 0} {valid : F → Type 0} {cautious : F → F → Type 0} {ra
   join_by_test fact same differs is tells turned =
       let told : Decides same ((join old new).0 ≡ old) = subst (λ f. Decides same (f ≡ old)) is tells in
       let says : differs ≡ (join old new).1 =
-          same_from_decides differs (join old new).1 (Decides-at differs (not same) turned (Decides-not same told))
-          (another, λ other. ⊎_elim (λ (q : (join old new).1 ≡ true). q) (λ (q : (join old new).1 ≡ false). absurd (other (laws.same old new v w q))) (cases_Bool (join old new).1)) in
+      same_from_decides differs (join old new).1 (Decides-at differs (not same) turned (Decides-not same told))
+      (another, λ other. ⊎_elim (λ (q : (join old new).1 ≡ true). q) (λ (q : (join old new).1 ≡ false). absurd (other (laws.same old new v w q))) (cases_Bool (join old new).1)) in
       λ j. (is j, says j)
