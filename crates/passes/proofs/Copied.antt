@@ -1,6 +1,6 @@
 -- What makes the pass of copies sound. The laws of its lattice are in specs/CopiesLaws.antt.
 use Rattle.std.specs.Prelude.{◌≡◌, ℕ, ◌<◌, Bool, true, false, cond, List, [], ◌∷◌, length, replicate, ℤ, pos, Some, None, Option, ◌==◌, ◌≢◌, slice_set, refl}
-use Rattle.std.proofs.Common.{sym, ap, subst, ◌∙◌, ⊎_elim, arith, length-set, get_or-set_same, get_or-set_other}
+use Rattle.std.proofs.Common.{sym, ap, subst, ◌∙◌, ⊎_elim, arith, length-set}
 use Rattle.std.proofs.lemmas.List.{get_or-replicate}
 use Rattle.std.proofs.lemmas.Bool.{cases_eq, eqb-true, eqb-false, cond_both, cond-true}
 use Rattle.script.specs.Arithmetic.{computed, same}
@@ -15,6 +15,7 @@ use Rattle.script.specs.declared.node.Last.TheVariants.{Go, If, End}
 use Rattle.script.proofs.Registers.{register_same, register_other}
 use Rattle.pass.specs.declared.lattice.Lattice.{Ghosts as LatticeOf}
 use Rattle.pass.specs.Forward.{ForwardLaws, MiddleAgrees, LastAgrees}
+use Rattle.pass.proofs.Rows.{get_or_set_at}
 use Rattle.pass.proofs.Proposals.{no_piece, one_agrees, one_last_agrees}
 use Rattle.passes.specs.declared.copies.Copies.{Copies}
 use Rattle.passes.specs.declared.copies.PlainSources.{PlainSources}
@@ -58,16 +59,13 @@ moved_holds : (r : Row) (d b : ℕ) (e : File) → length r ≡ registers → d 
 moved_holds r d b e n l a =
     cond_both (d == b) r (slice_set (killed r d) d (Some b)) (λ z. Holds z (with_register e d (e b)))
     (λ t i h s q. let k = same_file e d b (eqb-true d b t) in k i ∙ a i h s q ∙ sym (k s))
-    (λ t i h s q.
-    let other : d ≡ b → ⊥ = eqb-false d b t in
-    ⊎_elim
-    (λ (p : i ≡ d).
-    let at : source (slice_set (killed r d) d (Some b)) d ≡ Some b = get_or-set_same (killed r d) d (Some b) None (omega (arith, length_killed r d)) in
-    let same : source (slice_set (killed r d) d (Some b)) d ≡ source (slice_set (killed r d) d (Some b)) i = ap (source (slice_set (killed r d) d (Some b))) (sym p) in
-    let is : b ≡ s = cc in
-    ap (with_register e d (e b)) p ∙ register_same e d (e b) ∙ sym (register_other e d (e b) b (λ z. other (sym z))) ∙ ap (with_register e d (e b)) is)
-    (λ (p : i ≡ d → ⊥). killed_holds r d e (e b) (omega arith) a i h s (sym (get_or-set_other (killed r d) d i (Some b) None p) ∙ q))
-    (cases_eq i d))
+    (λ t i h s q. given (eqb-false d b t) i h s (i == d) refl (sym (get_or_set_at (killed r d) d i (Some b) None (omega (arith, length_killed r d))) ∙ q))
+  where
+    given : (d ≢ b) → (i : ℕ) → i < registers → (s : ℕ) → (c : Bool) → (i == d) ≡ c → cond c (Some b) (source (killed r d) i) ≡ Some s → with_register e d (e b) i ≡ with_register e d (e b) s
+    given other i h s true t q =
+        let is : b ≡ s = cc in
+        ap (with_register e d (e b)) (eqb-true i d t) ∙ register_same e d (e b) ∙ sym (register_other e d (e b) b (λ z. other (sym z))) ∙ ap (with_register e d (e b)) is
+    given other i h s false t q = killed_holds r d e (e b) (omega arith) a i h s q
 
 row_after_holds : (m : Middle) (r : Row) (slots e : File) → length r ≡ registers → Holds r e → Holds (row_after m r) (step slots m e)
 row_after_holds (Set to value) r slots e l a = killed_holds r to.index e value (omega (arith, to.ok)) a

@@ -1,7 +1,6 @@
 -- What makes the pass of constants sound. The laws of its lattice are in specs/ConstantsLaws.antt.
-use Rattle.std.specs.Prelude.{◌≡◌, ℕ, ◌<◌, Bool, true, false, cond, ◌⊎◌, List, [], ℤ, pos, Some, None, Option, FitsSigned, ◌==◌, ◌≢◌, refl}
+use Rattle.std.specs.Prelude.{◌≡◌, ℕ, ◌<◌, Bool, true, false, cond, ◌⊎◌, List, [], ℤ, pos, Some, None, Option, ◌==◌, ◌≢◌, refl}
 use Rattle.std.proofs.Common.{sym, ap, subst, ◌∙◌, inl, inr, arith, length-set}
-use Rattle.std.specs.Int.{w32}
 use Rattle.std.proofs.lemmas.Bool.{eqb-true, eqb-false, cond_both}
 use Rattle.script.specs.Arithmetic.{computed, same}
 use Rattle.script.specs.Limits.{registers}
@@ -23,37 +22,30 @@ use Rattle.pass.proofs.Proposals.{no_piece, one_agrees, one_last_agrees}
 use Rattle.pass.proofs.Rows.{get_or_set_at}
 use Rattle.passes.specs.declared.constants.Constants.{Constants}
 use Rattle.passes.specs.declared.constants.Numbers.{Numbers}
-use Rattle.passes.specs.Constants.{Valid, Cautious, Admits, how_many, all_zero, meet, known_as, becomes, combined, after, along, sets, in_place, goes, in_place_last}
+use Rattle.passes.specs.Constants.{FitsIf, Valid, Cautious, Admits, how_many, all_zero, meet, known_as, becomes, combined, after, along, sets, in_place, goes, in_place_last}
 use Rattle.passes.specs.ConstantsLaws.{zero_fits, zero_known}
 
 -- ---- admission
-
--- a number, where it is known, has 32 bits
-abbrev Fits : Option ℤ → Type 0
-Fits o = (k : ℤ) → o ≡ Some k → FitsSigned w32 k
-
-some_fits : (x : ℤ) → FitsSigned w32 x → Fits (Some x)
-some_fits x h k q = let is : x ≡ k = cc in subst (FitsSigned w32) is h
 
 combined_holds : (o : Operation) (a b : Option ℤ) (x y : ℤ) → ((k : ℤ) → a ≡ Some k → x ≡ k) → ((k : ℤ) → b ≡ Some k → y ≡ k) → (k : ℤ) → combined o a b ≡ Some k → computed o x y ≡ k
 combined_holds o None b x y h l k q = no_piece k q
 combined_holds o (Some s) None x y h l k q = no_piece k q
 combined_holds o (Some s) (Some t) x y h l k q = (λ i. computed o (h s refl i) (l t refl i)) ∙ cc
 
-combined_fits : (o : Operation) (a b : Option ℤ) → Fits (combined o a b)
-combined_fits o None b k q = no_piece k q
-combined_fits o (Some s) None k q = no_piece k q
-combined_fits o (Some s) (Some t) k q = some_fits (computed o s t) (computed_fits o s t) k q
+combined_fits : (o : Operation) (a b : Option ℤ) → FitsIf (combined o a b)
+combined_fits o None b = tt
+combined_fits o (Some s) None = tt
+combined_fits o (Some s) (Some t) = computed_fits o s t
 
 module _ (f : Numbers) (d : ℕ) (o : Option ℤ) (h : d < registers) (v : Valid f) where
   known_after : (i : ℕ) → known_as (becomes f d o) i ≡ cond (i == d) o (known_as f i)
   known_after i = get_or_set_at f.row d i o None (omega (arith, v.all))
 
-  becomes_valid : Fits o → Valid (becomes f d o)
+  becomes_valid : FitsIf o → Valid (becomes f d o)
   becomes_valid t =
       record {
         all = length-set f.row d o ∙ v.all;
-        fits = λ i l. subst Fits (sym (known_after i)) (cond_both (i == d) o (known_as f i) Fits (λ q. t) (λ q. v.fits i l));
+        fits = λ i l. subst FitsIf (sym (known_after i)) (cond_both (i == d) o (known_as f i) FitsIf (λ q. t) (λ q. v.fits i l));
       }
 
   -- of a file that differs from an admitted one in d alone, which holds the number, if that is known
@@ -68,10 +60,10 @@ written_admits : (f : Numbers) (d : ℕ) (o : Option ℤ) (e : File) (x : ℤ) �
 written_admits f d o e x b v h a = becomes_admits f d o b v e (with_register e d x) (λ y q. register_same e d x ∙ h y q) (register_other e d x) a
 
 after_valid : (m : Middle) → Fit m → (f : Numbers) → Valid f → Valid (after m f)
-after_valid (Set to value) t f v = becomes_valid f to.index (Some value) to.ok v (some_fits value t)
+after_valid (Set to value) t f v = becomes_valid f to.index (Some value) to.ok v t
 after_valid (Mov to from) t f v = becomes_valid f to.index (known_as f from.index) to.ok v (v.fits from.index from.ok)
 after_valid (Compute o to left right) t f v = becomes_valid f to.index (combined o (known_as f left.index) (known_as f right.index)) to.ok v (combined_fits o (known_as f left.index) (known_as f right.index))
-after_valid (Get to slot) t f v = becomes_valid f to.index None to.ok v (λ k q. no_piece k q)
+after_valid (Get to slot) t f v = becomes_valid f to.index None to.ok v tt
 after_valid (Put from) t f v = v
 
 along_valid : (n : Last) (k : Edge) (f : Numbers) → Valid f → Valid (along n k f)
@@ -98,10 +90,10 @@ along_admits (End from) k f v e a t = a
 -- ---- proposals
 
 -- a number that a node gives its register may be set there
-set_agrees : (m : Middle) (to : Register) (P : File → Type 0) (o : Option ℤ) (x : File → ℤ) → ((e : File) → puts m e ≡ []) → ((slots e : File) → step slots m e ≡ with_register e to.index (x e)) → Fits o → ((e : File) → P e → (k : ℤ) → o ≡ Some k → x e ≡ k) → (ms : List Middle) → sets to o ≡ Some ms → MiddleAgrees m ms P
+set_agrees : (m : Middle) (to : Register) (P : File → Type 0) (o : Option ℤ) (x : File → ℤ) → ((e : File) → puts m e ≡ []) → ((slots e : File) → step slots m e ≡ with_register e to.index (x e)) → FitsIf o → ((e : File) → P e → (k : ℤ) → o ≡ Some k → x e ≡ k) → (ms : List Middle) → sets to o ≡ Some ms → MiddleAgrees m ms P
 set_agrees m to P None x p s f h ms q = no_piece ms q
 set_agrees m to P (Some k) x p s f h ms q =
-    one_agrees m (Set to k) P (f k refl) (λ slots e u w a. (sym (p e), ap (with_register e to.index) (sym (h e a k refl)) ∙ sym (s slots e))) ms q
+    one_agrees m (Set to k) P f (λ slots e u w a. (sym (p e), ap (with_register e to.index) (sym (h e a k refl)) ∙ sym (s slots e))) ms q
 
 middle_agrees : (m : Middle) (f : Numbers) → Valid f → (ms : List Middle) → in_place m f ≡ Some ms → MiddleAgrees m ms (Admits f)
 middle_agrees (Set to value) f v ms q = no_piece ms q

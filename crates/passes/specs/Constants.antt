@@ -1,6 +1,7 @@
 -- What the pass of constants knows, and what it answers.
 --
 --   known_as f i          the number of register i, if it is known
+--   FitsIf o              the number o, if it is known, has 32 bits
 --   Valid f               f is a fact: a row for all registers, of numbers of 32 bits. The type says this of every record
 --   Cautious g f          whatever g knows, f knows equally
 --   Admits f e            the file e has the known numbers
@@ -32,9 +33,13 @@ use Rattle.passes.specs.Shared.{at, common, differ}
 abbrev pub known_as : Numbers → ℕ → Option ℤ
 known_as f i = at f.row i
 
+abbrev pub FitsIf : Option ℤ → Type 0
+FitsIf None = Unit {0}
+FitsIf (Some k) = FitsSigned w32 k
+
 pub record Valid (f : Numbers) : Type 0 where
   pub all : length f.row ≡ registers
-  pub fits : (i : ℕ) → i < registers → (k : ℤ) → known_as f i ≡ Some k → FitsSigned w32 k
+  pub fits : (i : ℕ) → i < registers → FitsIf (known_as f i)
 
 abbrev pub Cautious : Numbers → Numbers → Type 0
 Cautious g f = (i : ℕ) → i < registers → (k : ℤ) → known_as g i ≡ Some k → known_as f i ≡ Some k

@@ -1,8 +1,8 @@
 -- What two facts have in common, each of them has; where nothing is lost it is all that the first has, and otherwise it is
 -- less. They are proofs, and stand here for the laws of the two lattices.
 use Rattle.std.specs.Prelude.{◌≡◌, ℕ, ◌<◌, Bool, true, false, cond, not, List, length, is_some, Some, None, Option, count_by, refl}
-use Rattle.std.proofs.Common.{sym, ap, ◌∙◌, arith}
-use Rattle.std.proofs.lemmas.Bool.{both_ways, and_parts, not-true}
+use Rattle.std.proofs.Common.{sym, ap, subst, ◌∙◌, arith}
+use Rattle.std.proofs.lemmas.Bool.{both_ways, and_parts, not-true, cond_both}
 use Rattle.std.proofs.lemmas.Option.{cond_some}
 use Rattle.script.specs.Limits.{registers}
 use Rattle.pass.proofs.Proposals.{no_piece}
@@ -10,10 +10,14 @@ use Rattle.pass.proofs.Rows.{length_row, get_or_row, row_all, some_false, some_t
 use Rattle.passes.specs.Shared.{at, both, drops, shared, lost, common, differ}
 
 module _ {X : Type 0} (same : X → X → Bool) where
+  -- what holds of none and of the first holds of both
+  both_keeps : (P : Option X → Type 0) → P None → (a b : Option X) → P a → P (both same a b)
+  both_keeps P n None b p = p
+  both_keeps P n (Some a) None p = n
+  both_keeps P n (Some a) (Some b) p = cond_both (same a b) (Some a) None P (λ q. p) (λ q. n)
+
   pub both_left : (a b : Option X) (x : X) → both same a b ≡ Some x → a ≡ Some x
-  both_left None b x q = q
-  both_left (Some a) None x q = no_piece x q
-  both_left (Some a) (Some b) x q = ap Some (cond_some (same a b) a x q).1
+  both_left a b = both_keeps (λ o. (x : X) → o ≡ Some x → a ≡ Some x) (λ x q. no_piece x q) a b (λ x q. q)
 
   pub both_right : ((x y : X) → same x y ≡ true → x ≡ y) → (a b : Option X) (x : X) → both same a b ≡ Some x → b ≡ Some x
   both_right h None b x q = no_piece x q
@@ -38,6 +42,9 @@ module _ {X : Type 0} (same : X → X → Bool) where
   module _ (r q : List (Option X)) where
     pub common_at : (i : ℕ) → i < registers → at (common same r q) i ≡ shared same r q i
     common_at i h = get_or_row (shared same r q) i None h
+
+    pub common_keeps : (P : Option X → Type 0) → P None → (i : ℕ) → i < registers → P (at r i) → P (at (common same r q) i)
+    common_keeps P n i h p = subst P (sym (common_at i h)) (both_keeps P n (at r i) (at q i) p)
 
     pub common_left : (i : ℕ) → i < registers → (x : X) → at (common same r q) i ≡ Some x → at r i ≡ Some x
     common_left i h x e = both_left (at r i) (at q i) x (sym (common_at i h) ∙ e)

@@ -13,8 +13,9 @@ use pass::piece::{self, LastPiece, MiddlePiece};
 use script::limits::EACH_REGISTER;
 use script::node::{Last, Middle};
 
-// For each register its source: the index of another register, or none. Facts lie in memory that callers lend, so the
-// elements are plain numbers, of which nothing is known; `Sources` is made from the row after a check.
+// For each register its source: the index of another register, or none. The indices are plain numbers and no `Register`s:
+// facts lie in memory that callers lend, so they are plain records with no invariant in the type. `Sources` is made from
+// the row after a check.
 #[derive(Clone, Copy)]
 pub struct PlainSources {
     pub row: Row<u8>,

@@ -41,7 +41,8 @@ fn cleared(mut row: Row<u8>, d: Register) -> Row<u8>
 }
 
 impl Sources {
-    // The sources of a plain row, where no register is its own source and every source is a register.
+    // The sources of a plain row, where no register is its own source and every source is a register. No `TryFrom`: its
+    // error would say no more than none does.
     pub fn checked(row: Row<u8>) -> Option<Sources>
         ensures { MatchOption result (well row ≡ false) (λ s. (s.row ≡ row) × (well row ≡ true)) }
     {

@@ -1,4 +1,4 @@
-use Rattle.std.proofs.Common.{rules, ◌≡◌, sym, true, false, ℕ, ◌<◌}
+use Rattle.std.proofs.Common.{rules, ◌≡◌, false, ℕ, ◌<◌}
 use Rattle.pass.proofs.Rows.{every_from, every_false}
 use Rattle.passes.specs.Sources.{fine, source}
 use Rattle.passes.proofs.sources.Sources.checked.Goals as goal
