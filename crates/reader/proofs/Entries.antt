@@ -1,6 +1,7 @@
 -- Lines of one form, and the names of blocks.
-use Rattle.std.proofs.Common.{◌≡◌, ℕ, ◌<◌, Bool, true, false, cond, eqb, List, [], ◌∷◌, ℤ, pos, Some, None, Ok, Err, decimal, sym, refl, ap, ◌∙◌, arith, w32, of_z}
+use Rattle.std.proofs.Common.{◌≡◌, ℕ, ◌<◌, Bool, true, false, cond, eqb, List, [], ◌∷◌, ℤ, pos, Some, None, Ok, Err, Result, decimal, sym, refl, ap, ◌∙◌, arith, w32, of_z}
 use Rattle.std.specs.Fmt.{signed_decimal}
+use Rattle.std.specs.Result.{MatchResult}
 use Rattle.std.specs.Str.{bytes_eq}
 use Rattle.std.proofs.lemmas.Bool.{eqb-true, eq-eqb, lt-ltb, le-ltb, and_from, not_from_false}
 use Rattle.std.proofs.lemmas.Slice.Eq.{bytes_eq-Decides}
@@ -39,6 +40,11 @@ names_err w i h f e =
     let clash : Err f ≡ Ok (pos i) = e ∙ read in
     let z : ◌≡◌ {A = ℕ} 0 1 = cc clash in
     omega arith)
+
+pub names : (w : List ℕ) (i : ℕ) → i < most_blocks → (o : Result ℤ Flaw) → o ≡ operand most_blocks BlockWord w → (b : Bool) (Is : ℤ → Type 0) → MatchResult o Is (λ f. b ≡ false) → ((x : ℤ) → Is x → b ≡ eqb (of_z w32 x) i)
+    → b ≡ bytes_eq w (98 ∷ decimal i)
+names w i h (Ok x) e b Is k said = said x k ∙ names_ok w i h x e
+names w i h (Err f) e b Is k said = k ∙ names_err w i h f e
 
 module _ {A : Type 0} (n : ℕ) (r : Row A) (l : List ℕ) where
   pub row_hit : bytes_eq (cut 32 l).0 r.name ≡ true → line_as n (r ∷ []) l ≡ made_by r (operands n r.kinds (cut 32 l).1)

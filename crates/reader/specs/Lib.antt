@@ -3,4 +3,5 @@ pub mod Cursors
 pub mod Faults
 pub mod Read
 pub mod Reads
+pub mod Steps
 pub mod Totals

@@ -1,0 +1,10 @@
+-- What a function that reads gives of a step of the definition.
+--
+--   Gives s r c   r is what the step s gives: a value, after which the reading goes on at c, or a fault
+use Rattle.std.specs.Prelude.{◌≡◌, Ok, Err, Result}
+use Rattle.reader.specs.declared.fault.Fault.{Fault}
+use Rattle.reader.specs.Read.{Cursor, Step}
+
+abbrev pub Gives : {A : Type 0} → Step A → Result A Fault → Cursor → Type 0
+Gives s (Ok a) c = s ≡ Ok (a, c)
+Gives s (Err f) c = s ≡ Err f
