@@ -1,5 +1,5 @@
 -- A script in two rows, block after block.
-use Rattle.std.proofs.Common.{◌≡◌, ℕ, zero, suc, ◌+◌, ◌-◌, ◌%◌, ◌<◌, ◌≤◌, true, ltb, List, [], ◌∷◌, ◌++◌, length, get_or, take, drop, ℤ, nat_abs, Ok, Err, sym, refl, ap, ◌∙◌, append-nil, mod-eq_of_lt, arith, length-append, length-drop}
+use Rattle.std.proofs.Common.{◌≡◌, ℕ, zero, suc, ◌+◌, ◌-◌, ◌%◌, ◌<◌, ◌≤◌, true, ltb, List, [], ◌∷◌, ◌++◌, length, get_or, take, drop, ℤ, nat_abs, Ok, Err, Result, sym, refl, ap, ◌∙◌, append-nil, mod-eq_of_lt, arith, length-append, length-drop}
 use Rattle.std.proofs.lemmas.Bool.{leb-true, le-leb, eqb-true, eq-eqb, lt-ltb, and_parts, and_from}
 use Rattle.std.proofs.lemmas.List.{take-append-le, drop-append-le, take_all, drop_at, drop_more, drop_all, take_more}
 use Rattle.script.specs.declared.node.Middle.{Middle}
@@ -18,6 +18,7 @@ use Rattle.reader.specs.Read.{Cursor, Step, then, due, middles, body, bodies}
 use Rattle.words.proofs.Spelt.{from_to_pos}
 use Rattle.words.proofs.Rows.{Fit}
 use Rattle.reader.proofs.Dues.{due_is}
+use Rattle.reader.specs.Steps.{Gives}
 use Rattle.reader.specs.Totals.{total}
 use Rattle.reader.proofs.Loops.{joins, joins_start, joins_more, total_push}
 
@@ -73,14 +74,15 @@ due_targets n b c y e = (due_is LastNode n b (Targets n) last_rows (λ b. (go_ta
 
 -- ---- the bodies, one after the other
 
-pub body_fault : (n k : ℕ) (c : Cursor) (f : Fault) → middles n k c ≡ Err f → body n k c ≡ Err f
-body_fault n k c f e = ap (λ r. then r (λ h. then (due LastNode n last_rows h.1) (λ t. Ok ((h.0, t.0), t.1)))) e
+body_step : (n k : ℕ) (c d : Cursor) (xs : List Middle) → middles n k c ≡ Ok (xs, d) → body n k c ≡ then (due LastNode n last_rows d) (λ t. Ok ((xs, t.0), t.1))
+body_step n k c d xs e = ap (λ r. then r (λ h. then (due LastNode n last_rows h.1) (λ t. Ok ((h.0, t.0), t.1)))) e
 
-pub body_last_fault : (n k : ℕ) (c : Cursor) (xs : List Middle) (d : Cursor) (f : Fault) → middles n k c ≡ Ok (xs, d) → due LastNode n last_rows d ≡ Err f → body n k c ≡ Err f
-body_last_fault n k c xs d f e q = ap (λ r. then r (λ h. then (due LastNode n last_rows h.1) (λ t. Ok ((h.0, t.0), t.1)))) e ∙ ap (λ r. then r (λ t. Ok ((xs, t.0), t.1))) q
-
-pub body_read : (n k : ℕ) (c : Cursor) (xs : List Middle) (d : Cursor) (l : Last) (g : Cursor) → middles n k c ≡ Ok (xs, d) → due LastNode n last_rows d ≡ Ok (l, g) → body n k c ≡ Ok ((xs, l), g)
-body_read n k c xs d l g e q = ap (λ r. then r (λ h. then (due LastNode n last_rows h.1) (λ t. Ok ((h.0, t.0), t.1)))) e ∙ ap (λ r. then r (λ t. Ok ((xs, t.0), t.1))) q
+-- a body whose middle nodes are read, and put at the end of a row
+pub body_made : (n k : ℕ) → n ≤ most_blocks → (c d g : Cursor) (row row' xs : List Middle) → row' ≡ row ++ xs → length xs ≡ k → middles n k c ≡ Ok (xs, d)
+    → (r : Result Last Fault) → Gives (due LastNode n last_rows d) r g
+    → elim r as (λ s. Type 0) [ Ok l ↦ ((ys : List Middle) × (row' ≡ row ++ ys) × (length ys ≡ k) × (body n k c ≡ Ok ((ys, l), g)) × (below n l ≡ true)) | Err f ↦ body n k c ≡ Err f ]
+body_made n k b c d g row row' xs put long e (Ok l) q = (xs, put, long, body_step n k c d xs e ∙ ap (λ r. then r (λ t. Ok ((xs, t.0), t.1))) q, due_targets n b d (l, g) q)
+body_made n k b c d g row row' xs put long e (Err f) q = body_step n k c d xs e ∙ ap (λ r. then r (λ t. Ok ((xs, t.0), t.1))) q
 
 module _ (n : ℕ) (ks : List ℕ) (i : ℕ) (c : Cursor) (p : Program) (h : i < length ks) where
   abbrev after_block : Block × Cursor → Step Program
@@ -125,7 +127,7 @@ module _ (n : ℕ) (ks : List ℕ) (all : Step Program) (i : ℕ) (c : Cursor) (
   built_fault h f e = s.reads ∙ bodies_fault n ks i c (blocks_from ms 0 bs) h f e
 
   pub built_more : i < length ks → (xs ms' : List Middle) (b : BlockEnd) (bs' : List BlockEnd) (d : Cursor) → ms' ≡ ms ++ xs → bs' ≡ bs ++ b ∷ [] → b.end ≡ length ms'
-      → length ms' ≡ length ms + get_or ks i 0 → below n b.last ≡ true → body n (get_or ks i 0) c ≡ Ok ((xs, b.last), d) → Built n ks all (i + 1) d ms' bs'
+      → length xs ≡ get_or ks i 0 → below n b.last ≡ true → body n (get_or ks i 0) c ≡ Ok ((xs, b.last), d) → Built n ks all (i + 1) d ms' bs'
   built_more h xs ms' b bs' d em eb end long low e =
       let both : length ms' ≡ length ms + length xs = ap length em ∙ length-append ms xs in
       record {
@@ -134,7 +136,7 @@ module _ (n : ℕ) (ks : List ℕ) (all : Step Program) (i : ℕ) (c : Cursor) (
         ends = (λ j. ends_at 0 (eb j) (sym end j)) ∙ ends_more b 0 bs (length ms) s.ends (omega arith);
         targets = ap (all_below n) eb ∙ below_block b n bs s.targets low;
         many = ap length eb ∙ length-append bs (b ∷ []) ∙ omega (arith, s.many);
-        size = long ∙ ap (λ t. t + get_or ks i 0) s.size ∙ sym (total_more ks i h);
+        size = omega (arith, both, long, s.size, total_more ks i h);
       }
 
   pub built_all : length ks ≤ i → all ≡ Ok (blocks_from ms 0 bs, c)

@@ -42,9 +42,7 @@ impl<'a> Cursor<'a> {
         let start = *self;
         let flawed = |flaw|
             ensures { result ≡ fault_at (Question.Words flaw) due (cursor_of start.entry) }
-        {
-            start.fault(Question::Words(flaw), due)
-        };
+        { start.fault(Question::Words(flaw), due) };
         let line = self.next_line(due)?;
         read(line).map_err(flawed)
     }
