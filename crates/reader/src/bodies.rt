@@ -15,7 +15,7 @@ use script::block::BlockEnd;
 use script::limits::MOST_MIDDLES;
 use script::node::{Last, Middle};
 
-impl<'a> Cursor<'a> {
+impl Cursor<'_> {
     // So many middle nodes, put at the end of a row.
     fn middles(
         &mut self,

@@ -10,7 +10,7 @@ use super::fault::{Due, Fault, Question};
 use arrayvec::ArrayVec;
 use script::limits::{MOST_BLOCKS, MOST_MIDDLES};
 
-impl<'a> Cursor<'a> {
+impl Cursor<'_> {
     // The counts of the contents lines of n blocks.
     pub(crate) fn contents(&mut self, n: u8) -> Result<ArrayVec<usize, MOST_BLOCKS>, Fault>
         requires { n ≤ most_blocks }

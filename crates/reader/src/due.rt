@@ -23,15 +23,10 @@ impl<'a> Cursor<'a> {
         ensures { elim result [ Ok l ↦ (cut_at 10 self.old.rest.now ≡ (l.now, Some self.new.rest.now)) × (cursor_of self.new ≡ past (cursor_of self.old) l.now self.new.rest.now) | Err f ↦ ((cut_at 10 self.old.rest.now).1 ≡ None) × (f ≡ fault_at Question.Feed due (cursor_of self.old)) ] }
     {
         let (line, rest) = cut(self.rest, b'\n');
-        match rest {
-            Some(rest) => {
-                self.rest = rest;
-                self.line += 1;
-                self.place += line.len() + 1;
-                Ok(line)
-            }
-            None => Err(self.fault(Question::Feed, due)),
-        }
+        self.rest = rest.ok_or(self.fault(Question::Feed, due))?;
+        self.line += 1;
+        self.place += line.len() + 1;
+        Ok(line)
     }
 
     // The line that is due, as `read` reads it.

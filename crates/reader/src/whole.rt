@@ -12,7 +12,7 @@ use super::fault::{Due, Fault, Question};
 use super::rows::Rows;
 use script::store::Script;
 
-impl<'a> Cursor<'a> {
+impl Cursor<'_> {
     // That the text ends here.
     fn finish(&self) -> Result<(), Fault>
         ensures { elim result [ Ok _ ↦ ((p : Program) → finished self.now.rest.now (cursor_of self.now) p ≡ Ok p) | Err f ↦ ((p : Program) → finished self.now.rest.now (cursor_of self.now) p ≡ Err f) ] }
