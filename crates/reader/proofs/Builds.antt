@@ -88,9 +88,6 @@ module _ (n : ℕ) (ks : List ℕ) (i : ℕ) (c : Cursor) (p : Program) (h : i <
   abbrev after_block : Block × Cursor → Step Program
   after_block q = then (bodies n (drop (i + 1) ks) q.1) (λ t. Ok (q.0 ∷ t.0, t.1))
 
-  pub bodies_fault : (f : Fault) → body n (get_or ks i 0) c ≡ Err f → joins p (bodies n (drop i ks) c) ≡ Err f
-  bodies_fault f e = ap (joins p) (ap (λ l. bodies n l c) (drop_more ks i 0 h) ∙ ap (λ r. then r after_block) e)
-
   pub bodies_step : (b : Block) (d : Cursor) → body n (get_or ks i 0) c ≡ Ok (b, d) → joins p (bodies n (drop i ks) c) ≡ joins (p ++ b ∷ []) (bodies n (drop (i + 1) ks) d)
   bodies_step b d e = ap (joins p) (ap (λ l. bodies n l c) (drop_more ks i 0 h) ∙ ap (λ r. then r after_block) e) ∙ joins_more p b (bodies n (drop (i + 1) ks) d)
 
@@ -113,19 +110,7 @@ pub record Built (n : ℕ) (ks : List ℕ) (all : Step Program) (i : ℕ) (c : C
   pub many : length bs ≡ i
   pub size : length ms ≡ total (take i ks)
 
-pub built_start : (n : ℕ) (ks : List ℕ) (c : Cursor) (ms : List Middle) (bs : List BlockEnd) → ms ≡ [] → bs ≡ [] → Built n ks (bodies n ks c) 0 c ms bs
-built_start n ks c ms bs a b = record {
-  reads = joins_start (bodies n ks c) ∙ sym (λ i. joins (blocks_from (a i) 0 (b i)) (bodies n ks c));
-  ends = λ i. ends_at 0 (b i) (length (a i));
-  targets = ap (all_below n) b;
-  many = ap length b;
-  size = ap length a;
-}
-
 module _ (n : ℕ) (ks : List ℕ) (all : Step Program) (i : ℕ) (c : Cursor) (ms : List Middle) (bs : List BlockEnd) (s : Built n ks all i c ms bs) where
-  pub built_fault : i < length ks → (f : Fault) → body n (get_or ks i 0) c ≡ Err f → all ≡ Err f
-  built_fault h f e = s.reads ∙ bodies_fault n ks i c (blocks_from ms 0 bs) h f e
-
   pub built_more : i < length ks → (xs ms' : List Middle) (b : BlockEnd) (bs' : List BlockEnd) (d : Cursor) → ms' ≡ ms ++ xs → bs' ≡ bs ++ b ∷ [] → b.end ≡ length ms'
       → length xs ≡ get_or ks i 0 → below n b.last ≡ true → body n (get_or ks i 0) c ≡ Ok ((xs, b.last), d) → Built n ks all (i + 1) d ms' bs'
   built_more h xs ms' b bs' d em eb end long low e =
@@ -138,6 +123,3 @@ module _ (n : ℕ) (ks : List ℕ) (all : Step Program) (i : ℕ) (c : Cursor) (
         many = ap length eb ∙ length-append bs (b ∷ []) ∙ omega (arith, s.many);
         size = omega (arith, both, long, s.size, total_more ks i h);
       }
-
-  pub built_all : length ks ≤ i → all ≡ Ok (blocks_from ms 0 bs, c)
-  built_all h = s.reads ∙ ap (λ l. joins (blocks_from ms 0 bs) (bodies n l c)) (drop_all i ks h) ∙ ap (λ l. Ok (l, c)) (append-nil (blocks_from ms 0 bs))

@@ -1,13 +1,12 @@
 // Reads a text line by line.
-ghost use Rattle.std.specs.Prelude.{◌≡◌, ◌<◌, ◌≤◌, [], ◌∷◌, Some, None, Ok, Err, List, Result, ℕ};
+ghost use Rattle.std.specs.Prelude.{◌≡◌, ◌<◌, ◌≤◌, [], ◌∷◌, Some, None, Ok, Err, List, ℕ};
 ghost use Rattle.std.specs.Fn.{FnOnceReturnsAt};
 ghost use Rattle.reader.specs.Cursors.{cursor_of};
 ghost use Rattle.reader.specs.Read.{fault as fault_at, past, due as due_line};
-ghost use Rattle.reader.specs.Steps.{Gives};
+ghost use Rattle.reader.specs.Steps.{Gives, Computes};
 ghost use Rattle.script.specs.Limits.{most_blocks};
 ghost use Rattle.words.specs.Forms.{Row, header_row, contents_row, middle_rows, last_rows, line_as};
 ghost use Rattle.words.specs.Words.{cut as cut_at};
-ghost use Rattle.words.specs.declared.flaw.Flaw.{Flaw as FlawOf};
 
 use super::cursor::Cursor;
 use super::entry::{count, header};
@@ -32,7 +31,7 @@ impl<'a> Cursor<'a> {
     // The line that is due, as `read` reads it.
     fn due<T, F: FnOnce(&[u8]) -> Result<T, Flaw>>(&mut self, due: Due, read: F) -> Result<T, Fault>
         requires { F.IsAlwaysCallable read }
-        ensures { (n : ℕ) (rows : List (Row T)) → ((l : List ℕ) (r : Result T FlawOf) → FnOnceReturnsAt F.FnOnce read l r → r ≡ line_as n rows l) → Gives (due_line due n rows (cursor_of self.old)) result (cursor_of self.new) }
+        ensures { (n : ℕ) (rows : List (Row T)) → Computes (FnOnceReturnsAt F.FnOnce read) (line_as n rows) → Gives (due_line due n rows (cursor_of self.old)) result (cursor_of self.new) }
     {
         let start = *self;
         let flawed = |flaw|

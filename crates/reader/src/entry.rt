@@ -1,7 +1,8 @@
 // Reads the lines before the bodies, each without its line feed.
-ghost use Rattle.std.specs.Prelude.{◌≡◌, ◌<◌, ℕ, Bool, List, [], ◌∷◌, decimal};
+ghost use Rattle.std.specs.Prelude.{◌≡◌, ◌<◌, ℕ, List, [], ◌∷◌, decimal};
 ghost use Rattle.std.specs.Fn.{FnOnceReturnsAt};
 ghost use Rattle.std.specs.Str.{bytes_eq};
+ghost use Rattle.reader.specs.Steps.{Computes};
 ghost use Rattle.script.specs.Limits.{most_blocks};
 ghost use Rattle.words.specs.Forms.{header_row, contents_row, line_as};
 
@@ -16,7 +17,7 @@ const BLOCKS: &[u8] = b"blocks";
 // A line with one number of this kind after a word that `is_first` knows.
 fn numbered<F: FnOnce(&[u8]) -> bool>(line: &[u8], kind: Kind, is_first: F) -> Result<u32, Flaw>
     requires { F.IsAlwaysCallable is_first }
-    ensures { (name : List ℕ) → ((w : List ℕ) (b : Bool) → FnOnceReturnsAt F.FnOnce is_first w b → b ≡ bytes_eq w name) → result ≡ line_as 0 (record { name = name; kinds = kind ∷ []; make = (contents_row 0).make } ∷ []) line.now }
+    ensures { (name : List ℕ) → Computes (FnOnceReturnsAt F.FnOnce is_first) (λ word. bytes_eq word name) → result ≡ line_as 0 (record { name = name; kinds = kind ∷ []; make = (contents_row 0).make } ∷ []) line.now }
 {
     let (first, rest) = cut(line, b' ');
     if is_first(first) {
