@@ -1,7 +1,7 @@
 -- A script in two rows, block after block.
-use Rattle.std.proofs.Common.{◌≡◌, ℕ, zero, suc, ◌+◌, ◌-◌, ◌%◌, ◌<◌, ◌≤◌, true, ltb, List, [], ◌∷◌, ◌++◌, length, get_or, take, drop, ℤ, nat_abs, Ok, Err, Result, sym, refl, ap, ◌∙◌, append-nil, mod-eq_of_lt, arith, length-append, length-drop}
+use Rattle.std.proofs.Common.{◌≡◌, ℕ, zero, suc, ◌+◌, ◌-◌, ◌%◌, ◌<◌, ◌≤◌, true, ltb, List, [], ◌∷◌, ◌++◌, length, get_or, take, drop, ℤ, nat_abs, Ok, Err, Result, sym, refl, ap, ◌∙◌, mod-eq_of_lt, arith, length-append, length-drop}
 use Rattle.std.proofs.lemmas.Bool.{leb-true, le-leb, eqb-true, eq-eqb, lt-ltb, and_parts, and_from}
-use Rattle.std.proofs.lemmas.List.{take-append-le, drop-append-le, take_all, drop_at, drop_more, drop_all, take_more}
+use Rattle.std.proofs.lemmas.List.{take-append-le, drop-append-le, take_all, drop_at, drop_more, take_more}
 use Rattle.script.specs.declared.node.Middle.{Middle}
 use Rattle.script.specs.declared.node.Last.{Last}
 use Rattle.script.specs.Run.{Block, Program}
@@ -20,7 +20,7 @@ use Rattle.words.proofs.Rows.{Fit}
 use Rattle.reader.proofs.Dues.{due_is}
 use Rattle.reader.specs.Steps.{Gives}
 use Rattle.reader.specs.Totals.{total}
-use Rattle.reader.proofs.Loops.{joins, joins_start, joins_more, total_push}
+use Rattle.reader.proofs.Loops.{joins, joins_more, total_push}
 
 module _ (b : BlockEnd) where
   pub ends_more : (from : ℕ) (bs : List BlockEnd) (size : ℕ) → ends_at from bs size ≡ true → size ≤ b.end → ends_at from (bs ++ b ∷ []) b.end ≡ true

@@ -2,9 +2,10 @@
 ghost use Rattle.std.specs.Prelude.{◌≡◌, ◌+◌, ◌<◌, ◌≤◌, true, List, ◌++◌, length, Ok, Err};
 ghost use Rattle.reader.specs.Cursors.{cursor_of};
 ghost use Rattle.reader.specs.Read.{middles as middles_from, body as body_from, bodies as bodies_from};
+ghost use Rattle.reader.specs.Rows.{rows_program};
+ghost use Rattle.reader.specs.Steps.{GivesAs};
 ghost use Rattle.reader.specs.Totals.{total as total_of};
 ghost use Rattle.script.specs.Limits.{most_blocks, most_middles};
-ghost use Rattle.script.specs.Model.{blocks_from};
 ghost use Rattle.script.specs.Shape.{below};
 
 use super::cursor::Cursor;
@@ -52,7 +53,7 @@ impl Cursor<'_> {
         requires some { 0 < length counts.now }
         requires few { length counts.now ≤ most_blocks }
         requires small { total_of counts.now ≤ most_middles }
-        ensures { elim result [ Ok rows ↦ bodies_from (length counts.now) counts.now (cursor_of self.old) ≡ Ok (blocks_from rows.middles.items 0 rows.blocks.items, cursor_of self.new) | Err f ↦ bodies_from (length counts.now) counts.now (cursor_of self.old) ≡ Err f ] }
+        ensures { GivesAs rows_program (bodies_from (length counts.now) counts.now (cursor_of self.old)) result (cursor_of self.new) }
     {
         let blocks = counts.len() as u8;
         let mut middles = ArrayVec::new();

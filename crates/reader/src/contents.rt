@@ -1,7 +1,8 @@
 // Reads the contents lines.
-ghost use Rattle.std.specs.Prelude.{◌≡◌, ◌≤◌, length, Ok, Err};
+ghost use Rattle.std.specs.Prelude.{◌≡◌, ◌≤◌, length, IfOk};
 ghost use Rattle.reader.specs.Cursors.{cursor_of};
 ghost use Rattle.reader.specs.Read.{contents as contents_from};
+ghost use Rattle.reader.specs.Steps.{GivesAs};
 ghost use Rattle.reader.specs.Totals.{total as total_of};
 ghost use Rattle.script.specs.Limits.{most_blocks, most_middles};
 
@@ -14,7 +15,9 @@ impl Cursor<'_> {
     // The counts of the contents lines of n blocks.
     pub(crate) fn contents(&mut self, n: u8) -> Result<ArrayVec<usize, MOST_BLOCKS>, Fault>
         requires { n ≤ most_blocks }
-        ensures { elim result [ Ok counts ↦ (contents_from n 0 0 (cursor_of self.old) ≡ Ok (counts.items, cursor_of self.new)) × (length counts.items ≡ n) × (total_of counts.items ≤ most_middles) | Err f ↦ contents_from n 0 0 (cursor_of self.old) ≡ Err f ] }
+        ensures reads { GivesAs (λ counts. counts.items) (contents_from n 0 0 (cursor_of self.old)) result (cursor_of self.new) }
+        ensures many { IfOk result (λ counts. length counts.items ≡ n) }
+        ensures small { IfOk result (λ counts. total_of counts.items ≤ most_middles) }
     {
         let mut counts = ArrayVec::new();
         let mut total: usize = 0;

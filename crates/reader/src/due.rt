@@ -1,5 +1,5 @@
 // Reads a text line by line.
-ghost use Rattle.std.specs.Prelude.{◌≡◌, ◌<◌, ◌≤◌, [], ◌∷◌, Some, None, Ok, Err, List, ℕ};
+ghost use Rattle.std.specs.Prelude.{◌≡◌, ◌<◌, ◌≤◌, [], ◌∷◌, Some, None, Ok, Err, IfOk, List, ℕ};
 ghost use Rattle.std.specs.Fn.{FnOnceReturnsAt};
 ghost use Rattle.reader.specs.Cursors.{cursor_of};
 ghost use Rattle.reader.specs.Read.{fault as fault_at, past, due as due_line};
@@ -44,7 +44,7 @@ impl<'a> Cursor<'a> {
     // `blocks N`
     pub(crate) fn header(&mut self) -> Result<u8, Fault>
         ensures reads { Gives (due_line Due.Header 0 (header_row ∷ []) (cursor_of self.old)) result (cursor_of self.new) }
-        ensures range { elim result [ Ok n ↦ (1 ≤ n) × (n ≤ most_blocks) | Err f ↦ Unit {0} ] }
+        ensures range { IfOk result (λ n. (1 ≤ n) × (n ≤ most_blocks)) }
     {
         let n = self.due(Due::Header, header)?;
         Ok(n as u8)

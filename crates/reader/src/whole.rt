@@ -4,7 +4,8 @@ ghost use Rattle.reader.specs.Cases.{AllStand};
 ghost use Rattle.reader.specs.Cursors.{cursor_of};
 ghost use Rattle.reader.specs.Read.{finished, read as read_text};
 ghost use Rattle.reader.specs.Reads.{Reads};
-ghost use Rattle.script.specs.Model.{blocks_from, program_of};
+ghost use Rattle.reader.specs.Rows.{rows_program};
+ghost use Rattle.script.specs.Model.{program_of};
 ghost use Rattle.script.specs.Run.{Program};
 
 use super::cursor::Cursor;
@@ -27,7 +28,7 @@ impl Cursor<'_> {
 
 // Reads a text into rows.
 fn parse(text: &[u8]) -> Result<Rows, Fault>
-    ensures { elim result [ Ok rows ↦ read_text text.now ≡ Ok (blocks_from rows.middles.items 0 rows.blocks.items) | Err f ↦ read_text text.now ≡ Err f ] }
+    ensures { elim result [ Ok rows ↦ read_text text.now ≡ Ok (rows_program rows) | Err f ↦ read_text text.now ≡ Err f ] }
 {
     let mut at = Cursor {
         rest: text,
@@ -43,7 +44,7 @@ fn parse(text: &[u8]) -> Result<Rows, Fault>
 
 // Copies rows into those of a script, which have room for every script.
 fn fill(rows: &Rows, into: &mut Script)
-    ensures { program_of into.new ≡ blocks_from rows.now.middles.items 0 rows.now.blocks.items }
+    ensures { program_of into.new ≡ rows_program rows.now }
 {
     into.middles.clear();
     let _ = into.middles.extend_from_slice(rows.middles.as_slice());

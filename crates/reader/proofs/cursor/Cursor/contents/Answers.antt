@@ -6,13 +6,13 @@ use Rattle.reader.specs.Read.{contents}
 use Rattle.reader.proofs.Loops.{joins, contents_fault, contents_full, contents_step, total_push}
 use Rattle.reader.proofs.cursor.Cursor.contents.Goals as goal
 
-pub returns-in_err-count : goal.returns-in_err-count
-returns-in_err-count c =
+pub returns-in_err-count-clause-reads : goal.returns-in_err-count-clause-reads
+returns-in_err-count-clause-reads c =
     let p = err_from_is_err_and c.from_residual.result c.from_residual.ensures.1 in
     rw (p.1, p.2) (c.loop-i.invariant.0 ∙ contents_fault c.args.n c.loop-i.i c.loop-i.total (cursor_of c.loop-i.self) c.loop-i.counts.items c.loop-i-test.true _ c.in_err-count.ensures)
 
-pub returns-then-total-gt-MOST_MIDDLES : goal.returns-then-total-gt-MOST_MIDDLES
-returns-then-total-gt-MOST_MIDDLES c =
+pub returns-then-total-gt-MOST_MIDDLES-clause-reads : goal.returns-then-total-gt-MOST_MIDDLES-clause-reads
+returns-then-total-gt-MOST_MIDDLES-clause-reads c =
     c.loop-i.invariant.0 ∙ contents_full c.args.n c.loop-i.i c.loop-i.total (cursor_of c.loop-i.self) c.loop-i.counts.items c.loop-i-test.true _ _ c.in_ok-count.ensures c.if-total-gt-MOST_MIDDLES.true
     ∙ ap Err (sym c.fault.ensures)
 
