@@ -48,14 +48,14 @@ impl Cursor<'_> {
         self.last(blocks)
     }
 
-    // The bodies of as many blocks as there are counts.
-    pub(crate) fn bodies(&mut self, counts: &[usize]) -> Result<Rows, Fault>
-        requires some { 0 < length counts.now }
-        requires few { length counts.now ≤ most_blocks }
+    // The bodies of the blocks, which have so many middle nodes each.
+    pub(crate) fn bodies(&mut self, blocks: u8, counts: &[usize]) -> Result<Rows, Fault>
+        requires some { 0 < blocks }
+        requires few { blocks ≤ most_blocks }
+        requires each { length counts.now ≡ blocks }
         requires small { total_of counts.now ≤ most_middles }
-        ensures { GivesAs rows_program (bodies_from (length counts.now) counts.now (cursor_of self.old)) result (cursor_of self.new) }
+        ensures { GivesAs rows_program (bodies_from blocks counts.now (cursor_of self.old)) result (cursor_of self.new) }
     {
-        let blocks = counts.len() as u8;
         let mut middles = ArrayVec::new();
         let mut ends = ArrayVec::new();
         for count in counts {

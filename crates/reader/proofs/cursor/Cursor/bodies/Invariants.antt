@@ -1,4 +1,3 @@
-use Rattle.std.proofs.Common.{length}
 use Rattle.reader.specs.Cursors.{cursor_of}
 use Rattle.reader.specs.Read.{bodies}
 use Rattle.reader.proofs.Builds.{Built}
@@ -6,4 +5,4 @@ use Rattle.reader.proofs.cursor.Cursor.bodies.Given as goal
 
 abbrev pub invariant-loop-count : goal.invariant-loop-count
 invariant-loop-count l =
-    Built (length l.counts) l.counts (bodies (length l.counts) l.counts (cursor_of l.initial.self)) l.count-index (cursor_of l.self) l.middles.items l.ends.items
+    Built l.blocks l.counts (bodies l.blocks l.counts (cursor_of l.initial.self)) l.count-index (cursor_of l.self) l.middles.items l.ends.items
