@@ -65,9 +65,6 @@ impl Cursor<'_> {
                 last,
             });
         }
-        Ok(Rows {
-            middles,
-            blocks: ends,
-        })
+        Ok(Rows { middles, ends })
     }
 }

@@ -5,7 +5,6 @@ ghost use Rattle.reader.specs.Cursors.{cursor_of};
 ghost use Rattle.reader.specs.Read.{finished, read as read_text};
 ghost use Rattle.reader.specs.Reads.{Reads};
 ghost use Rattle.reader.specs.Rows.{rows_program};
-ghost use Rattle.script.specs.Model.{program_of};
 ghost use Rattle.script.specs.Run.{Program};
 
 use super::cursor::Cursor;
@@ -42,22 +41,11 @@ fn parse(text: &[u8]) -> Result<Rows, Fault>
     Ok(rows)
 }
 
-// Copies rows into those of a script, which have room for every script.
-fn fill(rows: &Rows, into: &mut Script)
-    ensures { program_of into.new ≡ rows_program rows.now }
-{
-    into.middles.clear();
-    let _ = into.middles.extend_from_slice(rows.middles.as_slice());
-    into.blocks.clear();
-    let _ = into.blocks.extend_from_slice(rows.blocks.as_slice());
-}
-
 // Reads a text into a script. On a fault the script is as it was.
 pub fn read(text: &[u8], into: &mut Script) -> Result<(), Fault>
     ensures { Reads text.now into.old result into.new }
 {
-    let rows = parse(text)?;
-    fill(&rows, into);
+    parse(text)?.copy_to(into);
     Ok(())
 }
 
