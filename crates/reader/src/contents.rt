@@ -23,6 +23,7 @@ impl Cursor<'_> {
         let mut total: usize = 0;
         for i in 0..n {
             let start = *self;
+            // `as`: usize has no From<u32>, and a try_from would make an error that can't come.
             let count = self.count(i)? as usize;
             total += count;
             if total > MOST_MIDDLES {

@@ -47,6 +47,7 @@ impl<'a> Cursor<'a> {
         ensures range { IfOk result (λ n. (1 ≤ n) × (n ≤ most_blocks)) }
     {
         let n = self.due(Due::Header, header)?;
+        // `as`: a try_from would make an error of a number above 255, and none comes here.
         Ok(n as u8)
     }
 

@@ -39,6 +39,7 @@ fn names_block(word: &[u8], i: u8) -> bool
     requires { i < most_blocks }
     ensures { result ≡ bytes_eq word.now (98 ∷ decimal i) }
 {
+    // `as`: a try_from of this constant, 64, would make an error that can't come.
     operand(Kind::BlockWord, MOST_BLOCKS as u8, word).is_ok_and(|x| x == i32::from(i))
 }
 

@@ -30,14 +30,8 @@ impl Rows {
         ensures { program_of script.new ≡ rows_program self.now }
     {
         script.middles.clear();
-        script
-            .middles
-            .extend_from_slice(self.middles.as_slice())
-            .unwrap();
+        script.middles.extend_from_slice(&self.middles).unwrap();
         script.blocks.clear();
-        script
-            .blocks
-            .extend_from_slice(self.ends.as_slice())
-            .unwrap();
+        script.blocks.extend_from_slice(&self.ends).unwrap();
     }
 }
