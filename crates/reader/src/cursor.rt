@@ -4,6 +4,7 @@ ghost use Rattle.reader.specs.Read.{fault as fault_at};
 
 use super::fault::{Due, Fault, Question};
 
+// What is left of the text from there on, and where that is.
 #[derive(Clone, Copy)]
 pub struct Cursor<'a> {
     // the bytes from here on

@@ -34,6 +34,7 @@ impl<'a> Cursor<'a> {
         ensures { (n : ℕ) (rows : List (Row T)) → Computes (FnOnceReturnsAt F.FnOnce read) (line_as n rows) → Gives (due_line due n rows (cursor_of self.old)) result (cursor_of self.new) }
     {
         let start = *self;
+        // It has a clause and stands here, since of a closure that is written into the last call nothing is known.
         let flawed = |flaw|
             ensures { result ≡ fault_at (Question.Words flaw) due (cursor_of start.entry) }
         { start.fault(Question::Words(flaw), due) };
