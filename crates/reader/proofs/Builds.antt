@@ -1,7 +1,7 @@
 -- A script in two rows, block after block.
-use Rattle.std.proofs.Common.{◌≡◌, ℕ, zero, suc, ◌+◌, ◌-◌, ◌%◌, ◌<◌, ◌≤◌, true, ltb, List, [], ◌∷◌, ◌++◌, length, get_or, take, drop, ℤ, nat_abs, Ok, Err, sym, refl, ap, ◌∙◌, append-nil, mod-eq_of_lt, arith, length-append, length-drop}
+use Rattle.std.proofs.Common.{◌≡◌, ℕ, zero, suc, ◌+◌, ◌-◌, ◌%◌, ◌<◌, ◌≤◌, true, ltb, List, [], ◌∷◌, ◌++◌, length, get_or, take, drop, ℤ, nat_abs, Ok, Err, Result, sym, refl, ap, ◌∙◌, mod-eq_of_lt, arith, length-append, length-drop}
 use Rattle.std.proofs.lemmas.Bool.{leb-true, le-leb, eqb-true, eq-eqb, lt-ltb, and_parts, and_from}
-use Rattle.std.proofs.lemmas.List.{take-append-le, drop-append-le, take_all, drop_at, drop_more, drop_all, take_more}
+use Rattle.std.proofs.lemmas.List.{take-append-le, drop-append-le, take_all, drop_at, drop_more, take_more}
 use Rattle.script.specs.declared.node.Middle.{Middle}
 use Rattle.script.specs.declared.node.Last.{Last}
 use Rattle.script.specs.Run.{Block, Program}
@@ -18,8 +18,9 @@ use Rattle.reader.specs.Read.{Cursor, Step, then, due, middles, body, bodies}
 use Rattle.words.proofs.Spelt.{from_to_pos}
 use Rattle.words.proofs.Rows.{Fit}
 use Rattle.reader.proofs.Dues.{due_is}
+use Rattle.reader.specs.Steps.{Gives}
 use Rattle.reader.specs.Totals.{total}
-use Rattle.reader.proofs.Loops.{joins, joins_start, joins_more, total_push}
+use Rattle.reader.proofs.Loops.{joins, joins_more, total_push}
 
 module _ (b : BlockEnd) where
   pub ends_more : (from : ℕ) (bs : List BlockEnd) (size : ℕ) → ends_at from bs size ≡ true → size ≤ b.end → ends_at from (bs ++ b ∷ []) b.end ≡ true
@@ -73,21 +74,19 @@ due_targets n b c y e = (due_is LastNode n b (Targets n) last_rows (λ b. (go_ta
 
 -- ---- the bodies, one after the other
 
-pub body_fault : (n k : ℕ) (c : Cursor) (f : Fault) → middles n k c ≡ Err f → body n k c ≡ Err f
-body_fault n k c f e = ap (λ r. then r (λ h. then (due LastNode n last_rows h.1) (λ t. Ok ((h.0, t.0), t.1)))) e
+body_step : (n k : ℕ) (c d : Cursor) (xs : List Middle) → middles n k c ≡ Ok (xs, d) → body n k c ≡ then (due LastNode n last_rows d) (λ t. Ok ((xs, t.0), t.1))
+body_step n k c d xs e = ap (λ r. then r (λ h. then (due LastNode n last_rows h.1) (λ t. Ok ((h.0, t.0), t.1)))) e
 
-pub body_last_fault : (n k : ℕ) (c : Cursor) (xs : List Middle) (d : Cursor) (f : Fault) → middles n k c ≡ Ok (xs, d) → due LastNode n last_rows d ≡ Err f → body n k c ≡ Err f
-body_last_fault n k c xs d f e q = ap (λ r. then r (λ h. then (due LastNode n last_rows h.1) (λ t. Ok ((h.0, t.0), t.1)))) e ∙ ap (λ r. then r (λ t. Ok ((xs, t.0), t.1))) q
-
-pub body_read : (n k : ℕ) (c : Cursor) (xs : List Middle) (d : Cursor) (l : Last) (g : Cursor) → middles n k c ≡ Ok (xs, d) → due LastNode n last_rows d ≡ Ok (l, g) → body n k c ≡ Ok ((xs, l), g)
-body_read n k c xs d l g e q = ap (λ r. then r (λ h. then (due LastNode n last_rows h.1) (λ t. Ok ((h.0, t.0), t.1)))) e ∙ ap (λ r. then r (λ t. Ok ((xs, t.0), t.1))) q
+-- a body whose middle nodes are read, and put at the end of a row
+pub body_made : (n k : ℕ) → n ≤ most_blocks → (c d g : Cursor) (row row' xs : List Middle) → row' ≡ row ++ xs → length xs ≡ k → middles n k c ≡ Ok (xs, d)
+    → (r : Result Last Fault) → Gives (due LastNode n last_rows d) r g
+    → elim r as (λ s. Type 0) [ Ok l ↦ ((ys : List Middle) × (row' ≡ row ++ ys) × (length ys ≡ k) × (body n k c ≡ Ok ((ys, l), g)) × (below n l ≡ true)) | Err f ↦ body n k c ≡ Err f ]
+body_made n k b c d g row row' xs put long e (Ok l) q = (xs, put, long, body_step n k c d xs e ∙ ap (λ r. then r (λ t. Ok ((xs, t.0), t.1))) q, due_targets n b d (l, g) q)
+body_made n k b c d g row row' xs put long e (Err f) q = body_step n k c d xs e ∙ ap (λ r. then r (λ t. Ok ((xs, t.0), t.1))) q
 
 module _ (n : ℕ) (ks : List ℕ) (i : ℕ) (c : Cursor) (p : Program) (h : i < length ks) where
   abbrev after_block : Block × Cursor → Step Program
   after_block q = then (bodies n (drop (i + 1) ks) q.1) (λ t. Ok (q.0 ∷ t.0, t.1))
-
-  pub bodies_fault : (f : Fault) → body n (get_or ks i 0) c ≡ Err f → joins p (bodies n (drop i ks) c) ≡ Err f
-  bodies_fault f e = ap (joins p) (ap (λ l. bodies n l c) (drop_more ks i 0 h) ∙ ap (λ r. then r after_block) e)
 
   pub bodies_step : (b : Block) (d : Cursor) → body n (get_or ks i 0) c ≡ Ok (b, d) → joins p (bodies n (drop i ks) c) ≡ joins (p ++ b ∷ []) (bodies n (drop (i + 1) ks) d)
   bodies_step b d e = ap (joins p) (ap (λ l. bodies n l c) (drop_more ks i 0 h) ∙ ap (λ r. then r after_block) e) ∙ joins_more p b (bodies n (drop (i + 1) ks) d)
@@ -111,21 +110,9 @@ pub record Built (n : ℕ) (ks : List ℕ) (all : Step Program) (i : ℕ) (c : C
   pub many : length bs ≡ i
   pub size : length ms ≡ total (take i ks)
 
-pub built_start : (n : ℕ) (ks : List ℕ) (c : Cursor) (ms : List Middle) (bs : List BlockEnd) → ms ≡ [] → bs ≡ [] → Built n ks (bodies n ks c) 0 c ms bs
-built_start n ks c ms bs a b = record {
-  reads = joins_start (bodies n ks c) ∙ sym (λ i. joins (blocks_from (a i) 0 (b i)) (bodies n ks c));
-  ends = λ i. ends_at 0 (b i) (length (a i));
-  targets = ap (all_below n) b;
-  many = ap length b;
-  size = ap length a;
-}
-
 module _ (n : ℕ) (ks : List ℕ) (all : Step Program) (i : ℕ) (c : Cursor) (ms : List Middle) (bs : List BlockEnd) (s : Built n ks all i c ms bs) where
-  pub built_fault : i < length ks → (f : Fault) → body n (get_or ks i 0) c ≡ Err f → all ≡ Err f
-  built_fault h f e = s.reads ∙ bodies_fault n ks i c (blocks_from ms 0 bs) h f e
-
   pub built_more : i < length ks → (xs ms' : List Middle) (b : BlockEnd) (bs' : List BlockEnd) (d : Cursor) → ms' ≡ ms ++ xs → bs' ≡ bs ++ b ∷ [] → b.end ≡ length ms'
-      → length ms' ≡ length ms + get_or ks i 0 → below n b.last ≡ true → body n (get_or ks i 0) c ≡ Ok ((xs, b.last), d) → Built n ks all (i + 1) d ms' bs'
+      → length xs ≡ get_or ks i 0 → below n b.last ≡ true → body n (get_or ks i 0) c ≡ Ok ((xs, b.last), d) → Built n ks all (i + 1) d ms' bs'
   built_more h xs ms' b bs' d em eb end long low e =
       let both : length ms' ≡ length ms + length xs = ap length em ∙ length-append ms xs in
       record {
@@ -134,8 +121,5 @@ module _ (n : ℕ) (ks : List ℕ) (all : Step Program) (i : ℕ) (c : Cursor) (
         ends = (λ j. ends_at 0 (eb j) (sym end j)) ∙ ends_more b 0 bs (length ms) s.ends (omega arith);
         targets = ap (all_below n) eb ∙ below_block b n bs s.targets low;
         many = ap length eb ∙ length-append bs (b ∷ []) ∙ omega (arith, s.many);
-        size = long ∙ ap (λ t. t + get_or ks i 0) s.size ∙ sym (total_more ks i h);
+        size = omega (arith, both, long, s.size, total_more ks i h);
       }
-
-  pub built_all : length ks ≤ i → all ≡ Ok (blocks_from ms 0 bs, c)
-  built_all h = s.reads ∙ ap (λ l. joins (blocks_from ms 0 bs) (bodies n l c)) (drop_all i ks h) ∙ ap (λ l. Ok (l, c)) (append-nil (blocks_from ms 0 bs))

@@ -1,5 +1,6 @@
 -- The line that is due, when it is read and when it is written.
-use Rattle.std.proofs.Common.{◌≡◌, ℕ, ◌≤◌, true, List, ◌∷◌, ◌++◌, Some, None, Ok, Err, Option, Result, ap, ◌∙◌, arith}
+use Rattle.std.proofs.Common.{◌≡◌, ℕ, ◌≤◌, true, List, ◌∷◌, ◌++◌, Some, None, Ok, Err, Option, Result, sym, ap, ◌∙◌, arith}
+use Rattle.std.specs.Result.{MatchResult, IsErrAnd}
 use Rattle.script.specs.Limits.{most_blocks}
 use Rattle.words.specs.declared.flaw.Flaw.{Flaw}
 use Rattle.words.specs.Forms.{Row, line_as}
@@ -7,7 +8,10 @@ use Rattle.words.specs.Words.{cut}
 use Rattle.words.proofs.Cuts.{after, lacks, cut_glues, cut_after}
 use Rattle.words.proofs.Rows.{Each, line_is}
 use Rattle.reader.specs.declared.fault.Due.{Due}
-use Rattle.reader.specs.Read.{Cursor, past, judged, ended_line, due}
+use Rattle.reader.specs.declared.fault.Fault.{Fault}
+use Rattle.reader.specs.declared.fault.Question.TheVariants.{Words}
+use Rattle.reader.specs.Read.{Cursor, past, fault, judged, ended_line, due}
+use Rattle.reader.specs.Steps.{Gives}
 
 module _ {A : Type 0} (d : Due) (n : ℕ) where
   judged_is : (c next : Cursor) (x : Result A Flaw) (y : A × Cursor) → judged d c next x ≡ Ok y → (x ≡ Ok y.0) × (next ≡ y.1)
@@ -34,3 +38,15 @@ module _ {A : Type 0} (d : Due) (n : ℕ) where
   due_written rows l a e k c rest t =
       let q : cut 10 c.rest ≡ (l, Some rest) = ap (cut 10) t ∙ cut_after 10 l (Some rest) k in
       (λ i. ended_line d n rows c (q i).0 (q i).1) ∙ ap (judged d c (past c l rest)) e
+
+  -- a line that ends, and what is made of it
+  due_cut : (rows : List (Row A)) (c next : Cursor) (l rest : List ℕ) → cut 10 c.rest ≡ (l, Some rest) → next ≡ past c l rest → (r : Result A Flaw) → r ≡ line_as n rows l
+      → due d n rows c ≡ judged d c next r
+  due_cut rows c next l rest q p r e = (λ i. ended_line d n rows c (q i).0 (q i).1) ∙ (λ i. judged d c (sym p i) (sym e i))
+
+  pub due_made : (rows : List (Row A)) (c next : Cursor) (l rest : List ℕ) → cut 10 c.rest ≡ (l, Some rest) → next ≡ past c l rest → (r : Result A Flaw) → r ≡ line_as n rows l
+      → (o : Result A Fault) → MatchResult r (λ x. o ≡ Ok x) (λ e. IsErrAnd o (λ f. f ≡ fault (Words e) d c)) → Gives (due d n rows c) o next
+  due_made rows c next l rest q p (Ok x) e (Ok y) h = due_cut rows c next l rest q p (Ok x) e ∙ (let s : x ≡ y = cc (sym h) in ap (λ z. Ok (z, next)) s)
+  due_made rows c next l rest q p (Ok x) e (Err f) h = absurd (let z : ◌≡◌ {A = ℕ} 0 1 = cc h in omega arith)
+  due_made rows c next l rest q p (Err g) e (Ok y) h = absurd h
+  due_made rows c next l rest q p (Err g) e (Err f) h = due_cut rows c next l rest q p (Err g) e ∙ ap Err (sym h)

@@ -1,5 +1,5 @@
 -- Reading one after the other.
-use Rattle.std.proofs.Common.{◌≡◌, ℕ, suc, ◌+◌, ◌-◌, ◌<◌, ◌≤◌, cond, leb, List, [], ◌∷◌, ◌++◌, Ok, Err, sym, refl, ap, ◌∙◌, append_assoc, append-nil, add-one, arith}
+use Rattle.std.proofs.Common.{◌≡◌, ℕ, suc, ◌+◌, ◌-◌, ◌<◌, ◌≤◌, cond, leb, List, [], ◌∷◌, ◌++◌, Ok, Err, sym, refl, ap, ◌∙◌, append_assoc, add-one, arith}
 use Rattle.std.proofs.lemmas.Bool.{le-leb, lt-leb}
 use Rattle.script.specs.Limits.{most_middles}
 use Rattle.script.specs.declared.node.Middle.{Middle}
@@ -48,9 +48,6 @@ module _ (n i sum : ℕ) (c : Cursor) (xs : List ℕ) (h : i < n) where
       ap (joins xs) (open_contents ∙ ap (λ r. then r after_count) e ∙ ap (λ t. cond t (then (contents (n - (i + 1)) (i + 1) (sum + k) d) (λ t. Ok (k ∷ t.0, t.1))) (Err (fault Total Count c))) (le-leb (sum + k) most_middles l))
       ∙ joins_more xs k (contents (n - (i + 1)) (i + 1) (sum + k) d)
 
-pub contents_end : (n i sum : ℕ) (c : Cursor) (xs : List ℕ) → n ≤ i → joins xs (contents (n - i) i sum c) ≡ Ok (xs, c)
-contents_end n i sum c xs h = let z : n - i ≡ 0 = omega arith in ap (λ k. joins xs (contents k i sum c)) z ∙ ap (λ l. Ok (l, c)) (append-nil xs)
-
 module _ (b k i : ℕ) (c : Cursor) (xs : List Middle) (h : i < k) where
   abbrev after_node : Middle × Cursor → Step (List Middle)
   after_node p = then (middles b (k - (i + 1)) p.1) (λ t. Ok (p.0 ∷ t.0, t.1))
@@ -60,6 +57,3 @@ module _ (b k i : ℕ) (c : Cursor) (xs : List Middle) (h : i < k) where
 
   pub middles_step : (m : Middle) (d : Cursor) → due MiddleNode b middle_rows c ≡ Ok (m, d) → joins xs (middles b (k - i) c) ≡ joins (xs ++ m ∷ []) (middles b (k - (i + 1)) d)
   middles_step m d e = ap (joins xs) (ap (λ m. middles b m c) (down k i h) ∙ ap (λ r. then r after_node) e) ∙ joins_more xs m (middles b (k - (i + 1)) d)
-
-pub middles_end : (b k i : ℕ) (c : Cursor) (xs : List Middle) → k ≤ i → joins xs (middles b (k - i) c) ≡ Ok (xs, c)
-middles_end b k i c xs h = let z : k - i ≡ 0 = omega arith in ap (λ m. joins xs (middles b m c)) z ∙ ap (λ l. Ok (l, c)) (append-nil xs)

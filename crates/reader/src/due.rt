@@ -1,9 +1,11 @@
 // Reads a text line by line.
-ghost use Rattle.std.specs.Prelude.{◌≡◌, ◌<◌, ◌≤◌, [], ◌∷◌, Some, None, Ok, Err};
+ghost use Rattle.std.specs.Prelude.{◌≡◌, ◌<◌, ◌≤◌, [], ◌∷◌, Some, None, Ok, Err, IfOk, List, ℕ};
+ghost use Rattle.std.specs.Fn.{FnOnceReturnsAt};
 ghost use Rattle.reader.specs.Cursors.{cursor_of};
-ghost use Rattle.reader.specs.Read.{fault, past, due as due_line};
+ghost use Rattle.reader.specs.Read.{fault as fault_at, past, due as due_line};
+ghost use Rattle.reader.specs.Steps.{Gives, Computes};
 ghost use Rattle.script.specs.Limits.{most_blocks};
-ghost use Rattle.words.specs.Forms.{header_row, contents_row, middle_rows, last_rows};
+ghost use Rattle.words.specs.Forms.{Row, header_row, contents_row, middle_rows, last_rows, line_as};
 ghost use Rattle.words.specs.Words.{cut as cut_at};
 
 use super::cursor::Cursor;
@@ -14,87 +16,61 @@ use script::node::{Last, Middle};
 use words::flaw::Flaw;
 use words::line::cut;
 
-// The fault of words that have a flaw, in the line that begins at this place.
-fn flawed(flaw: Flaw, due: Due, line: usize, place: usize) -> Fault
-    ensures { result ≡ fault (Question.Words flaw) due (record { line = line; place = place; rest = [] }) }
-{
-    Fault {
-        question: Question::Words(flaw),
-        due,
-        line,
-        place,
-    }
-}
-
 impl<'a> Cursor<'a> {
     // The line that is due, without its line feed.
     fn next_line(&mut self, due: Due) -> Result<&'a [u8], Fault>
-        ensures { elim result [ Ok l ↦ (cut_at 10 self.old.rest.now ≡ (l.now, Some self.new.rest.now)) × (cursor_of self.new ≡ past (cursor_of self.old) l.now self.new.rest.now) | Err f ↦ ((cut_at 10 self.old.rest.now).1 ≡ None) × (f ≡ fault Question.Feed due (cursor_of self.old)) ] }
+        ensures { elim result [ Ok l ↦ (cut_at 10 self.old.rest.now ≡ (l.now, Some self.new.rest.now)) × (cursor_of self.new ≡ past (cursor_of self.old) l.now self.new.rest.now) | Err f ↦ ((cut_at 10 self.old.rest.now).1 ≡ None) × (f ≡ fault_at Question.Feed due (cursor_of self.old)) ] }
     {
         let (line, rest) = cut(self.rest, b'\n');
-        match rest {
-            Some(rest) => {
-                self.rest = rest;
-                self.line += 1;
-                self.place += line.len() + 1;
-                Ok(line)
-            }
-            None => Err(Fault {
-                question: Question::Feed,
-                due,
-                line: self.line,
-                place: self.place,
-            }),
-        }
+        self.rest = rest.ok_or(self.fault(Question::Feed, due))?;
+        self.line += 1;
+        self.place += line.len() + 1;
+        Ok(line)
+    }
+
+    // The line that is due, as `read` reads it.
+    fn due<T, F: FnOnce(&[u8]) -> Result<T, Flaw>>(&mut self, due: Due, read: F) -> Result<T, Fault>
+        requires { F.IsAlwaysCallable read }
+        ensures { (n : ℕ) (rows : List (Row T)) → Computes (FnOnceReturnsAt F.FnOnce read) (line_as n rows) → Gives (due_line due n rows (cursor_of self.old)) result (cursor_of self.new) }
+    {
+        let start = *self;
+        // It has a clause and stands here, since of a closure that is written into the last call nothing is known.
+        let flawed = |flaw|
+            ensures { result ≡ fault_at (Question.Words flaw) due (cursor_of start.entry) }
+        { start.fault(Question::Words(flaw), due) };
+        let line = self.next_line(due)?;
+        read(line).map_err(flawed)
     }
 
     // `blocks N`
     pub(crate) fn header(&mut self) -> Result<u8, Fault>
-        ensures reads { elim result [ Ok n ↦ due_line Due.Header 0 (header_row ∷ []) (cursor_of self.old) ≡ Ok (n, cursor_of self.new) | Err f ↦ due_line Due.Header 0 (header_row ∷ []) (cursor_of self.old) ≡ Err f ] }
-        ensures range { elim result [ Ok n ↦ (1 ≤ n) × (n ≤ most_blocks) | Err f ↦ Unit {0} ] }
+        ensures reads { Gives (due_line Due.Header 0 (header_row ∷ []) (cursor_of self.old)) result (cursor_of self.new) }
+        ensures range { IfOk result (λ n. (1 ≤ n) × (n ≤ most_blocks)) }
     {
-        let (line, place) = (self.line, self.place);
-        let words = self.next_line(Due::Header)?;
-        match header(words) {
-            Ok(n) => Ok(n as u8),
-            Err(flaw) => Err(flawed(flaw, Due::Header, line, place)),
-        }
+        let n = self.due(Due::Header, header)?;
+        // `as`: a try_from would make an error of a number above 255, and none comes here.
+        Ok(n as u8)
     }
 
     // `bI C`
     pub(crate) fn count(&mut self, i: u8) -> Result<u32, Fault>
         requires { i < most_blocks }
-        ensures { elim result [ Ok n ↦ due_line Due.Count 0 (contents_row i ∷ []) (cursor_of self.old) ≡ Ok (n, cursor_of self.new) | Err f ↦ due_line Due.Count 0 (contents_row i ∷ []) (cursor_of self.old) ≡ Err f ] }
+        ensures { Gives (due_line Due.Count 0 (contents_row i ∷ []) (cursor_of self.old)) result (cursor_of self.new) }
     {
-        let (line, place) = (self.line, self.place);
-        let words = self.next_line(Due::Count)?;
-        match count(i, words) {
-            Ok(n) => Ok(n),
-            Err(flaw) => Err(flawed(flaw, Due::Count, line, place)),
-        }
+        self.due(Due::Count, |line| count(i, line))
     }
 
     // A middle node.
     pub(crate) fn middle(&mut self, blocks: u8) -> Result<Middle, Fault>
-        ensures { elim result [ Ok n ↦ due_line Due.MiddleNode blocks middle_rows (cursor_of self.old) ≡ Ok (n, cursor_of self.new) | Err f ↦ due_line Due.MiddleNode blocks middle_rows (cursor_of self.old) ≡ Err f ] }
+        ensures { Gives (due_line Due.MiddleNode blocks middle_rows (cursor_of self.old)) result (cursor_of self.new) }
     {
-        let (line, place) = (self.line, self.place);
-        let words = self.next_line(Due::MiddleNode)?;
-        match middle(words, blocks) {
-            Ok(node) => Ok(node),
-            Err(flaw) => Err(flawed(flaw, Due::MiddleNode, line, place)),
-        }
+        self.due(Due::MiddleNode, |line| middle(line, blocks))
     }
 
     // A last node.
     pub(crate) fn last(&mut self, blocks: u8) -> Result<Last, Fault>
-        ensures { elim result [ Ok n ↦ due_line Due.LastNode blocks last_rows (cursor_of self.old) ≡ Ok (n, cursor_of self.new) | Err f ↦ due_line Due.LastNode blocks last_rows (cursor_of self.old) ≡ Err f ] }
+        ensures { Gives (due_line Due.LastNode blocks last_rows (cursor_of self.old)) result (cursor_of self.new) }
     {
-        let (line, place) = (self.line, self.place);
-        let words = self.next_line(Due::LastNode)?;
-        match last(words, blocks) {
-            Ok(node) => Ok(node),
-            Err(flaw) => Err(flawed(flaw, Due::LastNode, line, place)),
-        }
+        self.due(Due::LastNode, |line| last(line, blocks))
     }
 }

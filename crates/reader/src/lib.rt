@@ -12,6 +12,7 @@ mod cursor;
 mod due;
 mod entry;
 pub mod fault;
+mod rows;
 mod whole;
 
 pub use whole::{cases_stand, read};

@@ -1,8 +1,6 @@
-use Rattle.reader.proofs.Entries.{names_ok, names_err}
+use Rattle.std.proofs.Common.{rules}
+use Rattle.reader.proofs.Entries.{names}
 use Rattle.reader.proofs.entry.names_block.Goals as goal
 
-pub returns-in-Ok : goal.returns-in-Ok
-returns-in-Ok c = names_ok c.args.word.now c.args.i c.requires c.in-Ok.x c.in-Ok.ensures
-
-pub returns-in-Err : goal.returns-in-Err
-returns-in-Err c = names_err c.args.word.now c.args.i c.requires _ c.in-Err.ensures
+pub returns : goal.returns
+returns c = names c.args.word.now c.args.i c.requires c.operand.result c.operand.ensures c.is_ok_and.result _ c.is_ok_and.ensures (λ x is. search rules)

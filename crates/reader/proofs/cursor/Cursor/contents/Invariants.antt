@@ -1,4 +1,4 @@
-use Rattle.std.proofs.Common.{◌≡◌, ◌-◌, ◌≤◌, take}
+use Rattle.std.proofs.Common.{◌≡◌, ◌-◌, ◌≤◌, length}
 use Rattle.reader.specs.Cursors.{cursor_of}
 use Rattle.script.specs.Limits.{most_middles}
 use Rattle.reader.specs.Totals.{total}
@@ -7,4 +7,8 @@ use Rattle.reader.proofs.Loops.{joins}
 use Rattle.reader.proofs.cursor.Cursor.contents.Given as goal
 
 abbrev pub invariant-loop-i : goal.invariant-loop-i
-invariant-loop-i l = (contents l.n 0 0 (cursor_of l.initial.self) ≡ joins (take l.i l.counts) (contents (l.n - l.i) l.i l.total (cursor_of l.self))) × (l.total ≡ total (take l.i l.counts)) × (l.total ≤ most_middles)
+invariant-loop-i l =
+    (contents l.n 0 0 (cursor_of l.initial.self) ≡ joins l.counts.items (contents (l.n - l.i) l.i l.total (cursor_of l.self)))
+    × (length l.counts.items ≡ l.i)
+    × (l.total ≡ total l.counts.items)
+    × (l.total ≤ most_middles)

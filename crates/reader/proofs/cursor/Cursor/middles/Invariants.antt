@@ -1,12 +1,13 @@
-use Rattle.std.proofs.Common.{◌≡◌, ◌+◌, ◌-◌, List, ◌++◌, take}
+use Rattle.std.proofs.Common.{◌≡◌, ◌-◌, List, ◌++◌, length}
 use Rattle.script.specs.declared.node.Middle.{Middle}
 use Rattle.reader.specs.Cursors.{cursor_of}
 use Rattle.reader.specs.Read.{middles}
 use Rattle.reader.proofs.Loops.{joins}
 use Rattle.reader.proofs.cursor.Cursor.middles.Given as goal
 
-abbrev pub invariant-loop-i : goal.invariant-loop-i
-invariant-loop-i l =
+abbrev pub invariant-loop : goal.invariant-loop
+invariant-loop l =
     (xs : List Middle)
-    × (take (l.at + l.i) l.row ≡ take l.at l.initial.row ++ xs)
-    × (middles l.blocks l.count (cursor_of l.initial.self) ≡ joins xs (middles l.blocks (l.count - l.i) (cursor_of l.self)))
+    × (l.row.items ≡ l.initial.row.items ++ xs)
+    × (length xs ≡ l.counter)
+    × (middles l.blocks l.count (cursor_of l.initial.self) ≡ joins xs (middles l.blocks (l.count - l.counter) (cursor_of l.self)))
