@@ -1,5 +1,5 @@
 // Cuts a line into words that borrow it, and reads the words after the first.
-ghost use Rattle.std.specs.Prelude.{◌≡◌, ◌+◌, ◌<◌, ◌≤◌, [], ◌∷◌, length, take, drop, Some, None, Ok, Err, slice_set};
+ghost use Rattle.std.specs.Prelude.{◌≡◌, ◌<◌, ◌≤◌, [], ◌∷◌, length, take, Ok, Err, slice_set};
 ghost use Rattle.std.specs.Option.{option_map};
 ghost use Rattle.words.specs.Forms.{made_by, contents_row};
 ghost use Rattle.words.specs.Table.{kinds_of};
@@ -11,30 +11,14 @@ use super::operand::operand;
 use super::table::kinds;
 use super::verb::Verb;
 
-// The first place of a byte, or the length.
-fn first_of(bytes: &[u8], byte: u8) -> usize
-    ensures inside { result ≤ length bytes.now }
-    ensures found { result < length bytes.now → cut_at byte bytes.now ≡ (take result bytes.now, Some (drop (result + 1) bytes.now)) }
-    ensures none { result ≡ length bytes.now → cut_at byte bytes.now ≡ (bytes.now, None) }
-{
-    for (i, x) in bytes.iter().enumerate() {
-        if *x == byte {
-            return i;
-        }
-    }
-    bytes.len()
-}
-
 // What stands before the first such byte, and what follows it, if there is one.
 pub fn cut(bytes: &[u8], byte: u8) -> (&[u8], Option<&[u8]>)
     ensures front { result.0.now ≡ (cut_at byte bytes.now).0 }
     ensures back { option_map (λ x. x.now) result.1 ≡ (cut_at byte bytes.now).1 }
 {
-    let at = first_of(bytes, byte);
-    if at < bytes.len() {
-        (&bytes[..at], Some(&bytes[at + 1..]))
-    } else {
-        (bytes, None)
+    match bytes.iter().position(|x| *x == byte) {
+        Some(at) => (&bytes[..at], Some(&bytes[at + 1..])),
+        None => (bytes, None),
     }
 }
 
