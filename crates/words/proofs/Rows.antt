@@ -31,6 +31,16 @@ both_some (Ok x) (Err g) e = let z : ◌≡◌ {A = ℕ} 0 1 = cc in omega arith
 both_some (Err f) (Ok xs) e = let z : ◌≡◌ {A = ℕ} 0 1 = cc in omega arith
 both_some (Err f) (Err g) e = let z : ◌≡◌ {A = ℕ} 0 1 = cc in omega arith
 
+-- as many numbers as kinds
+pub operands_length : (n : ℕ) (ks : List Kind) (o : Option (List ℕ)) (vs : List ℤ) → operands n ks o ≡ Ok vs → length vs ≡ length ks
+operands_length n [] None [] e = refl
+operands_length n [] None (v ∷ vs) e = absurd (let z : ◌≡◌ {A = ℕ} 0 1 = cc in omega arith)
+operands_length n [] (Some l) vs e = absurd (let z : ◌≡◌ {A = ℕ} 0 1 = cc in omega arith)
+operands_length n (k ∷ ks) None vs e = absurd (let z : ◌≡◌ {A = ℕ} 0 1 = cc in omega arith)
+operands_length n (k ∷ ks) (Some l) [] e = absurd (both_some (operand n k (cut 32 l).0) (operands n ks (cut 32 l).1) e)
+operands_length n (k ∷ ks) (Some l) (v ∷ vs) e =
+    ap suc (operands_length n ks (cut 32 l).1 vs (both_is (operand n k (cut 32 l).0) (operands n ks (cut 32 l).1) v vs e).1)
+
 pub operands_is : (n : ℕ) → n ≤ most_blocks → (ks : List Kind) (o : Option (List ℕ)) (vs : List ℤ) → operands n ks o ≡ Ok vs → Fit n ks vs × (after 32 o ≡ spaced ks vs)
 operands_is n b [] None [] e = (tt, refl)
 operands_is n b [] None (v ∷ vs) e = absurd (let z : ◌≡◌ {A = ℕ} 0 1 = cc in omega arith)
