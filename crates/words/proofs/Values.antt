@@ -1,5 +1,5 @@
 -- The operands of a line, one after the other.
-use Rattle.std.proofs.Common.{◌≡◌, ℕ, ◌+◌, ◌<◌, ◌≤◌, true, false, List, [], ◌∷◌, ◌++◌, length, get_or, drop, ℤ, is_some, Some, None, Ok, Err, Option, Result, sym, refl, ap, ◌∙◌, append_assoc, arith}
+use Rattle.std.proofs.Common.{◌≡◌, ℕ, ◌+◌, ◌<◌, ◌≤◌, true, false, List, [], ◌∷◌, ◌++◌, length, get_or, drop, ℤ, is_some, Some, None, Ok, Err, Option, Result, sym, refl, ap, ◌∙◌, append_assoc}
 use Rattle.std.proofs.lemmas.List.{drop_more, drop_all}
 use Rattle.std.proofs.lemmas.Bool.{true≢false, false≢true}
 use Rattle.std.specs.Option.{option_map, ok_or}
@@ -71,4 +71,4 @@ end_none n f (Some x) e = absurd (true≢false e)
 -- a line that ends too early
 pub none_left : {A : Type 0} (o : Option A) (r : Result A Flaw) (f : Flaw) → r ≡ ok_or o Form → r ≡ Err f → (o ≡ None) × (f ≡ Form)
 none_left None r f e q = (refl, cc)
-none_left (Some x) r f e q = absurd (let z : ◌≡◌ {A = ℕ} 0 1 = cc in omega arith)
+none_left (Some x) r f e q = absurd (cc)

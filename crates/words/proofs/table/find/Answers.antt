@@ -47,8 +47,8 @@ module _ (items rows : List NodeForm) (same : items ≡ rows) (w : List ℕ) whe
       let low = (each v).0 in
       let row = first_row rows (omega arith) in
       none (place_of v) row (omega arith) low ((each v).1 row ∙ h)
-  verb_found None (Some v) none e named each = absurd (let z : ◌≡◌ {A = ℕ} 0 1 = cc in omega arith)
-  verb_found (Some x) None some e named each = absurd (let z : ◌≡◌ {A = ℕ} 0 1 = cc in omega arith)
+  verb_found None (Some v) none e named each = absurd (cc)
+  verb_found (Some x) None some e named each = absurd (cc)
   verb_found (Some x) (Some v) some e named each =
       let named_here = AllWithin-from_all Named rows named some.1 x.now (omega arith) some.2 in
       ap name_of (cc) ∙ subst Named (some.3 x.now) named_here ∙ some.0
