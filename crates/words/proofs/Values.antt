@@ -1,8 +1,8 @@
 -- The operands of a line, one after the other.
-use Rattle.std.proofs.Common.{◌≡◌, ℕ, ◌+◌, ◌<◌, ◌≤◌, true, false, List, [], ◌∷◌, ◌++◌, length, get_or, drop, ℤ, is_some, Some, None, Ok, Err, Option, Result, sym, refl, ap, ◌∙◌, append_assoc}
-use Rattle.std.proofs.lemmas.List.{drop_more, drop_all}
-use Rattle.std.proofs.lemmas.Bool.{true≢false, false≢true}
-use Rattle.std.specs.Option.{option_map, ok_or}
+use Rattle.std.proofs.Common.{◌≡◌, ℕ, ◌+◌, ◌<◌, List, [], ◌∷◌, ◌++◌, length, get_or, drop, ℤ, Some, None, Ok, Err, Option, Result, sym, refl, ap, ◌∙◌, append_assoc}
+use Rattle.std.proofs.lemmas.List.{drop_more}
+use Rattle.std.specs.Option.{ok_or}
+use Rattle.std.specs.Result.{IsErrAnd}
 use Rattle.words.specs.declared.flaw.Flaw.{Flaw}
 use Rattle.words.specs.declared.flaw.Flaw.TheVariants.{Form, Range}
 use Rattle.words.specs.declared.kind.Kind.{Kind}
@@ -14,10 +14,6 @@ onto xs (Ok u) (Ok vs) = Ok (xs ++ vs)
 onto xs (Ok u) (Err g) = Err g
 onto xs (Err f) (Ok vs) = Err f
 onto xs (Err f) (Err g) = Err g
-
-pub onto_start : (u : Unit {0}) (r : Result (List ℤ) Flaw) → r ≡ onto [] (Ok u) r
-onto_start u (Ok vs) = refl
-onto_start u (Err g) = refl
 
 pub onto_ok : (xs : List ℤ) (far : Result (Unit {0}) Flaw) (v : ℤ) (r : Result (List ℤ) Flaw) → onto xs far (both (Ok v) r) ≡ onto (xs ++ v ∷ []) far r
 onto_ok xs (Ok u) v (Ok vs) = ap Ok (sym (append_assoc xs (v ∷ []) vs))
@@ -31,13 +27,7 @@ onto_far xs ys (Ok u) (Err g) = refl
 onto_far xs ys (Err f) (Ok vs) = refl
 onto_far xs ys (Err f) (Err g) = refl
 
-pub onto_form : (xs : List ℤ) (far : Result (Unit {0}) Flaw) (r : Result (List ℤ) Flaw) → onto xs far (both (Err Form) r) ≡ Err Form
-onto_form xs (Ok u) (Ok vs) = refl
-onto_form xs (Ok u) (Err g) = refl
-onto_form xs (Err f) (Ok vs) = refl
-onto_form xs (Err f) (Err g) = refl
-
-pub onto_err : (xs : List ℤ) (far : Result (Unit {0}) Flaw) (g : Flaw) → onto xs far (Err g) ≡ Err g
+onto_err : (xs : List ℤ) (far : Result (Unit {0}) Flaw) (g : Flaw) → onto xs far (Err g) ≡ Err g
 onto_err xs (Ok u) g = refl
 onto_err xs (Err f) g = refl
 
@@ -54,21 +44,9 @@ module _ (n : ℕ) (ks : List Kind) (i : ℕ) (d : Kind) (h : i < length ks) (al
       ∙ (λ j. onto xs far (both (operand n (get_or ks i d) (sym a j)) (operands n (drop (i + 1) ks) (sym b j))))
       ∙ ap (λ x. onto xs far (both x (operands n (drop (i + 1) ks) more))) (sym q)
 
--- after the last
-module _ (n : ℕ) (ks : List Kind) (i : ℕ) (h : length ks ≤ i) (all : Result (List ℤ) Flaw) (xs : List ℤ) (far : Result (Unit {0}) Flaw) (o : Option (List ℕ))
-    (was : all ≡ onto xs far (operands n (drop i ks) o)) where
-  pub values_end : all ≡ onto xs far (operands n [] o)
-  values_end = was ∙ ap (λ l. onto xs far (operands n l o)) (drop_all i ks h)
-
-pub end_some : {X : Type 0} (n : ℕ) (f : X → List ℕ) (o : Option X) → is_some o ≡ true → operands n [] (option_map f o) ≡ Err Form
-end_some n f None e = absurd (false≢true e)
-end_some n f (Some x) e = refl
-
-pub end_none : {X : Type 0} (n : ℕ) (f : X → List ℕ) (o : Option X) → is_some o ≡ false → operands n [] (option_map f o) ≡ Ok []
-end_none n f None e = refl
-end_none n f (Some x) e = absurd (true≢false e)
-
--- a line that ends too early
-pub none_left : {A : Type 0} (o : Option A) (r : Result A Flaw) (f : Flaw) → r ≡ ok_or o Form → r ≡ Err f → (o ≡ None) × (f ≡ Form)
-none_left None r f e q = (refl, cc)
-none_left (Some x) r f e q = absurd (cc)
+-- the way out of `ok_or(Flaw::Form)?`
+pub none_left : {A X : Type 0} (o : Option A) (r : Result A Flaw) (f : Flaw) (out : Result X Flaw) → r ≡ ok_or o Form → r ≡ Err f → IsErrAnd out (λ g. g ≡ f)
+    → (o ≡ None) × (out ≡ Err Form)
+none_left None r f (Ok x) e q given = absurd given
+none_left None r f (Err g) e q given = (refl, cc)
+none_left (Some x) r f out e q given = absurd (cc)

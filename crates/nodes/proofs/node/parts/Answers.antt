@@ -1,5 +1,4 @@
-use Rattle.std.proofs.Common.{◌≢◌, Err, sym, ap, ◌∙◌}
-use Rattle.std.proofs.lemmas.Result.{err_from_is_err_and}
+use Rattle.std.proofs.Common.{◌≢◌, sym, ap, ◌∙◌}
 use Rattle.std.proofs.lemmas.Bool.{not-false}
 use Rattle.std.specs.Cmp.{booleans_Decides}
 use Rattle.std.specs.Option.{option_map}
@@ -15,18 +14,16 @@ use Rattle.nodes.proofs.node.parts.Goals as goal
 
 pub returns-in_err-verb-clause-middle : goal.returns-in_err-verb-clause-middle
 returns-in_err-verb-clause-middle c = λ due.
-    let end = none_left c.find.result c.ok_or.result c.in_err-verb.field-0.0 c.ok_or.ensures.value c.in_err-verb.was in
-    let given = err_from_is_err_and c.from_residual.result c.from_residual.ensures.1 in
+    let end = none_left c.find.result c.ok_or.result c.in_err-verb.field-0.0 c.from_residual.result c.ok_or.ensures.value c.in_err-verb.was c.from_residual.ensures.1 in
     let no_verb : (v : Verb) → name_of v ≢ c.cut.result.0.now = rw end.0 at c.find.ensures.finds in
-    ap (result_map_both (λ p. middle_make p.0 p.1.items) (λ f. f)) (given.1 ∙ ap Err (given.2 ∙ end.1))
+    ap (result_map_both (λ p. middle_make p.0 p.1.items) (λ f. f)) end.1
     ∙ sym (line_miss c.args.blocks middle_rows c.args.line.now (sym (ap (seek middle_rows) c.cut.ensures.front) ∙ middle_missing c.cut.result.0.now no_verb))
 
 pub returns-in_err-verb-clause-last : goal.returns-in_err-verb-clause-last
 returns-in_err-verb-clause-last c = λ due.
-    let end = none_left c.find.result c.ok_or.result c.in_err-verb.field-0.0 c.ok_or.ensures.value c.in_err-verb.was in
-    let given = err_from_is_err_and c.from_residual.result c.from_residual.ensures.1 in
+    let end = none_left c.find.result c.ok_or.result c.in_err-verb.field-0.0 c.from_residual.result c.ok_or.ensures.value c.in_err-verb.was c.from_residual.ensures.1 in
     let no_verb : (v : Verb) → name_of v ≢ c.cut.result.0.now = rw end.0 at c.find.ensures.finds in
-    ap (result_map_both (λ p. last_make p.0 p.1.items) (λ f. f)) (given.1 ∙ ap Err (given.2 ∙ end.1))
+    ap (result_map_both (λ p. last_make p.0 p.1.items) (λ f. f)) end.1
     ∙ sym (line_miss c.args.blocks last_rows c.args.line.now (sym (ap (seek last_rows) c.cut.ensures.front) ∙ last_missing c.cut.result.0.now no_verb))
 
 pub returns-clause-due : goal.returns-clause-due

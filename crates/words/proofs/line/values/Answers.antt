@@ -1,7 +1,6 @@
-use Rattle.std.proofs.Common.{◌≡◌, ◌+◌, [], ◌∷◌, ◌++◌, length, get_or, drop, ℤ, Err, sym, ap, ◌∙◌, arith, length-append, w32}
+use Rattle.std.proofs.Common.{◌≡◌, ◌+◌, [], ◌∷◌, ◌++◌, length, get_or, drop, ℤ, sym, ap, ◌∙◌, arith, length-append, w32}
 use Rattle.arrayvec.specs.ArrayVec.{ArrayVec}
 use Rattle.std.proofs.lemmas.Int.{to_z-of_z}
-use Rattle.std.proofs.lemmas.Result.{err_from_is_err_and}
 use Rattle.std.specs.Option.{option_map}
 use Rattle.std.specs.Result.{result_ok, result_map_both}
 use Rattle.words.specs.declared.kind.Kind.TheVariants.{RegisterWord}
@@ -13,9 +12,8 @@ use Rattle.words.proofs.line.values.Goals.{in-Ok, in-Err-Range}
 
 pub returns-in_err-ok_or : goal.returns-in_err-ok_or
 returns-in_err-ok_or c =
-    let end = none_left c.loop-kind.left c.ok_or.result c.in_err-ok_or.field-0.0 c.ok_or.ensures.value c.in_err-ok_or.was in
-    let given = err_from_is_err_and c.from_residual.result c.from_residual.ensures.1 in
-    ap (result_map_both (λ v. v.items) (λ f. f)) (given.1 ∙ ap Err (given.2 ∙ end.1))
+    let end = none_left c.loop-kind.left c.ok_or.result c.in_err-ok_or.field-0.0 c.from_residual.result c.ok_or.ensures.value c.in_err-ok_or.was c.from_residual.ensures.1 in
+    ap (result_map_both (λ v. v.items) (λ f. f)) end.1
     ∙ sym (values_none c.args.blocks c.args.kinds.now c.loop-kind.kind-index RegisterWord c.loop-kind-test.true _ c.loop-kind.numbers.items c.loop-kind.in_range
     (option_map (λ x. x.now) c.loop-kind.left) c.loop-kind.invariant.left (ap (option_map (λ x. x.now)) end.0))
 
