@@ -22,6 +22,7 @@ fn below(x: i32, end: u32) -> u8
     (x.unsigned_abs() % end) as u8
 }
 
+// A register. One function of registers and slots would need a trait, which is more than the two lines that it saves.
 fn register(x: i32) -> Register
     ensures { result ≡ register_of (unsigned_abs x) }
 {
@@ -30,6 +31,7 @@ fn register(x: i32) -> Register
     }
 }
 
+// A slot.
 fn slot(x: i32) -> Slot
     ensures { result ≡ slot_of (unsigned_abs x) }
 {
@@ -38,6 +40,7 @@ fn slot(x: i32) -> Slot
     }
 }
 
+// A block's place in the script.
 fn block(x: i32) -> u8
     ensures { result ≡ unsigned_abs x % 256 }
 {
@@ -51,6 +54,7 @@ fn ends(verb: Verb) -> bool
     matches!(verb, Verb::Go | Verb::If | Verb::End)
 }
 
+// The arithmetic of three registers.
 fn compute(operation: Operation, numbers: &[i32]) -> Middle
     requires { length numbers.now ≡ 3 }
     ensures { result ≡ (compute_row operation).make numbers.now }

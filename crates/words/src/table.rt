@@ -14,8 +14,10 @@ struct NodeForm {
     kinds: &'static [Kind],
 }
 
+// The operands of arithmetic.
 const THREE_REGISTERS: &[Kind] = &[Kind::RegisterWord, Kind::RegisterWord, Kind::RegisterWord];
 
+// A row for each verb, at the verb's own place.
 const NODES: [NodeForm; 14] = [
     NodeForm {
         verb: Verb::Set,
