@@ -1,73 +1,14 @@
--- What a verb that was found says of the rows of the node lines.
-use Rattle.std.proofs.Common.{◌≡◌, ℕ, true, false, cond, List, [], ◌∷◌, length, take, ℤ, Some, None, Ok, Err, sym, refl, ap, ◌∙◌, arith}
+-- A line whose first word is the name of no verb.
+use Rattle.std.proofs.Common.{◌≡◌, ℕ, cond, List, [], ◌∷◌, Some, None, Err, sym, refl, ap, ◌∙◌}
 use Rattle.std.specs.Str.{bytes_eq}
 use Rattle.std.proofs.lemmas.Slice.Eq.{bytes_eq-Decides}
-use Rattle.script.specs.declared.node.Last.{Last}
-use Rattle.script.specs.declared.node.Middle.{Middle}
-use Rattle.words.specs.declared.flaw.Flaw.{Flaw}
 use Rattle.words.specs.declared.flaw.Flaw.TheVariants.{Form}
 use Rattle.words.specs.declared.verb.Verb.{Verb}
 use Rattle.words.specs.declared.verb.Verb.TheVariants.{Set, Mov, Add, Sub, Mul, Div, Rem, Lt, Eq, Get, Put, Go, If, End}
-use Rattle.words.specs.Forms.{Row, node_row, seek, follow, made_by, line_as, middle_rows, last_rows}
+use Rattle.words.specs.Forms.{Row, seek, follow, line_as, middle_rows, last_rows}
 use Rattle.words.specs.Table.{name_of}
-use Rattle.words.specs.Words.{cut, operands}
-use Rattle.nodes.specs.Nodes.{ends_block, middle_make, last_make}
+use Rattle.words.specs.Words.{cut}
 use Rattle.words.proofs.Cuts.{never}
-
--- ---- the row of a verb
-
-abbrev pub middle_row : Verb → Row Middle
-middle_row v = node_row v (middle_make v)
-
-abbrev pub last_row : Verb → Row Last
-last_row v = node_row v (last_make v)
-
-seek_middle : (v : Verb) → seek middle_rows (name_of v) ≡ cond (ends_block v) None (Some (middle_row v))
-seek_middle Set = refl
-seek_middle Mov = refl
-seek_middle Add = refl
-seek_middle Sub = refl
-seek_middle Mul = refl
-seek_middle Div = refl
-seek_middle Rem = refl
-seek_middle Lt = refl
-seek_middle Eq = refl
-seek_middle Get = refl
-seek_middle Put = refl
-seek_middle Go = refl
-seek_middle If = refl
-seek_middle End = refl
-
-seek_last : (v : Verb) → seek last_rows (name_of v) ≡ cond (ends_block v) (Some (last_row v)) None
-seek_last Set = refl
-seek_last Mov = refl
-seek_last Add = refl
-seek_last Sub = refl
-seek_last Mul = refl
-seek_last Div = refl
-seek_last Rem = refl
-seek_last Lt = refl
-seek_last Eq = refl
-seek_last Get = refl
-seek_last Put = refl
-seek_last Go = refl
-seek_last If = refl
-seek_last End = refl
-
-module _ (v : Verb) (w : List ℕ) (e : name_of v ≡ w) where
-  pub middle_found : ends_block v ≡ false → seek middle_rows w ≡ Some (middle_row v)
-  middle_found h = ap (seek middle_rows) (sym e) ∙ seek_middle v ∙ ap (λ t. cond t None (Some (middle_row v))) h
-
-  pub middle_other : ends_block v ≡ true → seek middle_rows w ≡ None
-  middle_other h = ap (seek middle_rows) (sym e) ∙ seek_middle v ∙ ap (λ t. cond t None (Some (middle_row v))) h
-
-  pub last_found : ends_block v ≡ true → seek last_rows w ≡ Some (last_row v)
-  last_found h = ap (seek last_rows) (sym e) ∙ seek_last v ∙ ap (λ t. cond t (Some (last_row v)) None) h
-
-  pub last_other : ends_block v ≡ false → seek last_rows w ≡ None
-  last_other h = ap (seek last_rows) (sym e) ∙ seek_last v ∙ ap (λ t. cond t (Some (last_row v)) None) h
-
--- ---- no verb
 
 module _ {A : Type 0} (w : List ℕ) where
   abbrev Others : List (Row A) → Type 0
@@ -87,59 +28,6 @@ middle_missing w n = seek_none w middle_rows
 pub last_missing : (w : List ℕ) → ((v : Verb) → name_of v ≡ w → ⊥) → seek last_rows w ≡ None
 last_missing w n = seek_none w last_rows (n Go, (n If, (n End, tt)))
 
--- ---- what a row makes hangs on no more values than it has kinds
-
-abbrev pub Local : {A : Type 0} → Row A → Type 0
-Local r = (a b c : ℤ) → r.make (take (length r.kinds) (a ∷ b ∷ c ∷ [])) ≡ r.make (a ∷ b ∷ c ∷ [])
-
-pub middle_local : (v : Verb) → Local (middle_row v)
-middle_local Set a b c = refl
-middle_local Mov a b c = refl
-middle_local Add a b c = refl
-middle_local Sub a b c = refl
-middle_local Mul a b c = refl
-middle_local Div a b c = refl
-middle_local Rem a b c = refl
-middle_local Lt a b c = refl
-middle_local Eq a b c = refl
-middle_local Get a b c = refl
-middle_local Put a b c = refl
-middle_local Go a b c = refl
-middle_local If a b c = refl
-middle_local End a b c = refl
-
-pub last_local : (v : Verb) → Local (last_row v)
-last_local Set a b c = refl
-last_local Mov a b c = refl
-last_local Add a b c = refl
-last_local Sub a b c = refl
-last_local Mul a b c = refl
-last_local Div a b c = refl
-last_local Rem a b c = refl
-last_local Lt a b c = refl
-last_local Eq a b c = refl
-last_local Get a b c = refl
-last_local Put a b c = refl
-last_local Go a b c = refl
-last_local If a b c = refl
-last_local End a b c = refl
-
--- ---- the line
-
 module _ {A : Type 0} (n : ℕ) (rows : List (Row A)) (l : List ℕ) where
-  three : (r : Row A) → Local r → (v : List ℤ) → length v ≡ 3 → r.make (take (length r.kinds) v) ≡ r.make v
-  three r g [] e = absurd (omega arith)
-  three r g (a ∷ []) e = absurd (omega arith)
-  three r g (a ∷ b ∷ []) e = absurd (omega arith)
-  three r g (a ∷ b ∷ c ∷ []) e = g a b c
-  three r g (a ∷ b ∷ c ∷ d ∷ v) e = absurd (omega arith)
-
   pub line_miss : seek rows (cut 32 l).0 ≡ None → line_as n rows l ≡ Err Form
   line_miss e = ap (λ o. follow n o (cut 32 l).1) e
-
-  pub line_flaw : (r : Row A) (f : Flaw) → seek rows (cut 32 l).0 ≡ Some r → operands n r.kinds (cut 32 l).1 ≡ Err f → line_as n rows l ≡ Err f
-  line_flaw r f e q = ap (λ o. follow n o (cut 32 l).1) e ∙ ap (made_by r) q
-
-  pub line_hit : (r : Row A) (v : List ℤ) → seek rows (cut 32 l).0 ≡ Some r → operands n r.kinds (cut 32 l).1 ≡ Ok (take (length r.kinds) v) → length v ≡ 3 → Local r
-      → line_as n rows l ≡ Ok (r.make v)
-  line_hit r v e q long g = ap (λ o. follow n o (cut 32 l).1) e ∙ ap (made_by r) q ∙ ap Ok (three r g v long)

@@ -1,27 +1,19 @@
 -- Reading digits from the left.
-use Rattle.std.proofs.Common.{◌≡◌, ℕ, zero, suc, ◌+◌, ◌-◌, ◌*◌, ◌<◌, Bool, true, false, ◌&&◌, List, [], ◌∷◌, ◌++◌, length, get_or, take, drop, sym, refl, ap, ◌∙◌, true≢false, arith}
+use Rattle.std.proofs.Common.{◌≡◌, ℕ, zero, suc, ◌+◌, ◌-◌, ◌*◌, ◌<◌, true, false, ◌&&◌, List, [], ◌∷◌, ◌++◌, length, get_or, take, refl, ap, ◌∙◌, arith}
 use Rattle.std.specs.Char.{is_ascii_digit}
 use Rattle.std.specs.Str.{all_ascii_digits}
-use Rattle.std.proofs.lemmas.List.{take_more, take_all}
+use Rattle.std.proofs.Math.Bool.{and-false}
+use Rattle.std.proofs.lemmas.Bool.{and_parts, and_from}
+use Rattle.std.proofs.lemmas.List.{take_more}
 use Rattle.words.specs.Numbers.{value_after}
-
-and_true : (a b : Bool) → (a && b) ≡ true → (a ≡ true) × (b ≡ true)
-and_true true b e = (refl, e)
-and_true false b e = absurd (true≢false (sym e))
-
-and_false : (a : Bool) → (a && false) ≡ false
-and_false true = refl
-and_false false = refl
 
 read_on_push : (n : ℕ) (ds : List ℕ) (c : ℕ) → value_after n (ds ++ c ∷ []) ≡ value_after n ds * 10 + (c - 48)
 read_on_push n [] c = refl
 read_on_push n (d ∷ ds) c = read_on_push (n * 10 + (d - 48)) ds c
 
 all_push : (ds : List ℕ) (c : ℕ) → all_ascii_digits ds ≡ true → is_ascii_digit c ≡ true → all_ascii_digits (ds ++ c ∷ []) ≡ true
-all_push [] c a b = ap (λ t. t && true) b
-all_push (d ∷ ds) c a b =
-    let two = and_true (is_ascii_digit d) (all_ascii_digits ds) a in
-    (λ i. two.0 i && all_push ds c two.1 b i)
+all_push [] c a b = and_from _ _ b refl
+all_push (d ∷ ds) c a b = let two = and_parts _ _ a in and_from _ _ two.0 (all_push ds c two.1 b)
 
 pub read_more : (ds : List ℕ) (i : ℕ) → i < length ds → value_after 0 (take (i + 1) ds) ≡ value_after 0 (take i ds) * 10 + (get_or ds i 0 - 48)
 read_more ds i h = ap (value_after 0) (take_more ds i 0 h) ∙ read_on_push 0 (take i ds) (get_or ds i 0)
@@ -32,9 +24,4 @@ digits_more ds i h a b = ap all_ascii_digits (take_more ds i 0 h) ∙ all_push (
 pub digits_stop : (ds : List ℕ) (i : ℕ) → i < length ds → is_ascii_digit (get_or ds i 0) ≡ false → all_ascii_digits ds ≡ false
 digits_stop [] i h b = absurd (omega arith)
 digits_stop (d ∷ ds) zero h b = ap (λ t. t && all_ascii_digits ds) b
-digits_stop (d ∷ ds) (suc i) h b = ap (λ t. is_ascii_digit d && t) (digits_stop ds i (omega arith) b) ∙ and_false (is_ascii_digit d)
-
--- what a pattern such as `[b'r', digits @ ..]` says of the word
-pub first_is : (w : List ℕ) (k : ℕ) → 0 < k → get_or w 0 0 ≡ k → w ≡ k ∷ take (length w - 1) (drop 1 w)
-first_is [] k h e = absurd (omega arith)
-first_is (c ∷ ds) k h e = λ i. e i ∷ sym (take_all (length (c ∷ ds) - 1) ds (omega arith)) i
+digits_stop (d ∷ ds) (suc i) h b = ap (λ t. is_ascii_digit d && t) (digits_stop ds i (omega arith) b) ∙ and-false (is_ascii_digit d)

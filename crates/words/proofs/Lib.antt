@@ -4,4 +4,3 @@ pub mod Rows
 pub mod Spelt
 pub mod Steps
 pub mod Values
-pub mod Verbs

@@ -21,21 +21,31 @@ Fit n (k ∷ ks) (v ∷ vs) = (within n k v ≡ true) × Fit n ks vs
 
 both_is : (a : Result ℤ Flaw) (b : Result (List ℤ) Flaw) (v : ℤ) (vs : List ℤ) → both a b ≡ Ok (v ∷ vs) → (a ≡ Ok v) × (b ≡ Ok vs)
 both_is (Ok x) (Ok xs) v vs e = (cc, cc)
-both_is (Ok x) (Err g) v vs e = absurd (let z : ◌≡◌ {A = ℕ} 0 1 = cc in omega arith)
-both_is (Err f) (Ok xs) v vs e = absurd (let z : ◌≡◌ {A = ℕ} 0 1 = cc in omega arith)
-both_is (Err f) (Err g) v vs e = absurd (let z : ◌≡◌ {A = ℕ} 0 1 = cc in omega arith)
+both_is (Ok x) (Err g) v vs e = absurd (cc)
+both_is (Err f) (Ok xs) v vs e = absurd (cc)
+both_is (Err f) (Err g) v vs e = absurd (cc)
 
 both_some : (a : Result ℤ Flaw) (b : Result (List ℤ) Flaw) → both a b ≡ Ok [] → ⊥
-both_some (Ok x) (Ok xs) e = let z : ◌≡◌ {A = ℕ} 0 1 = cc in omega arith
-both_some (Ok x) (Err g) e = let z : ◌≡◌ {A = ℕ} 0 1 = cc in omega arith
-both_some (Err f) (Ok xs) e = let z : ◌≡◌ {A = ℕ} 0 1 = cc in omega arith
-both_some (Err f) (Err g) e = let z : ◌≡◌ {A = ℕ} 0 1 = cc in omega arith
+both_some (Ok x) (Ok xs) e = cc
+both_some (Ok x) (Err g) e = cc
+both_some (Err f) (Ok xs) e = cc
+both_some (Err f) (Err g) e = cc
+
+-- as many numbers as kinds
+pub operands_length : (n : ℕ) (ks : List Kind) (o : Option (List ℕ)) (vs : List ℤ) → operands n ks o ≡ Ok vs → length vs ≡ length ks
+operands_length n [] None [] e = refl
+operands_length n [] None (v ∷ vs) e = absurd (cc)
+operands_length n [] (Some l) vs e = absurd (cc)
+operands_length n (k ∷ ks) None vs e = absurd (cc)
+operands_length n (k ∷ ks) (Some l) [] e = absurd (both_some (operand n k (cut 32 l).0) (operands n ks (cut 32 l).1) e)
+operands_length n (k ∷ ks) (Some l) (v ∷ vs) e =
+    ap suc (operands_length n ks (cut 32 l).1 vs (both_is (operand n k (cut 32 l).0) (operands n ks (cut 32 l).1) v vs e).1)
 
 pub operands_is : (n : ℕ) → n ≤ most_blocks → (ks : List Kind) (o : Option (List ℕ)) (vs : List ℤ) → operands n ks o ≡ Ok vs → Fit n ks vs × (after 32 o ≡ spaced ks vs)
 operands_is n b [] None [] e = (tt, refl)
-operands_is n b [] None (v ∷ vs) e = absurd (let z : ◌≡◌ {A = ℕ} 0 1 = cc in omega arith)
-operands_is n b [] (Some l) vs e = absurd (let z : ◌≡◌ {A = ℕ} 0 1 = cc in omega arith)
-operands_is n b (k ∷ ks) None vs e = absurd (let z : ◌≡◌ {A = ℕ} 0 1 = cc in omega arith)
+operands_is n b [] None (v ∷ vs) e = absurd (cc)
+operands_is n b [] (Some l) vs e = absurd (cc)
+operands_is n b (k ∷ ks) None vs e = absurd (cc)
 operands_is n b (k ∷ ks) (Some l) [] e = absurd (both_some (operand n k (cut 32 l).0) (operands n ks (cut 32 l).1) e)
 operands_is n b (k ∷ ks) (Some l) (v ∷ vs) e =
     let two = both_is (operand n k (cut 32 l).0) (operands n ks (cut 32 l).1) v vs e in
@@ -99,16 +109,16 @@ module _ {A : Type 0} (n : ℕ) (b : n ≤ most_blocks) where
     seek_by w false r o s h g k e = k e
 
     seek_is : (rows : List (Row A)) → Each G rows → (w : List ℕ) (s : Row A) → seek rows w ≡ Some s → (s.name ≡ w) × Good G s
-    seek_is [] g w s e = absurd (let z : ◌≡◌ {A = ℕ} 0 1 = cc in omega arith)
+    seek_is [] g w s e = absurd (cc)
     seek_is (r ∷ rs) g w s e = seek_by w (bytes_eq w r.name) r (seek rs w) s (bytes_eq-Decides w r.name).0 g.0 (seek_is rs g.1 w s) e
 
     follow_is : (o : Option (Row A)) (rest : Option (List ℕ)) (a : A) → follow n o rest ≡ Ok a → (r : Row A) × (o ≡ Some r) × (made_by r (operands n r.kinds rest) ≡ Ok a)
-    follow_is None rest a e = absurd (let z : ◌≡◌ {A = ℕ} 0 1 = cc in omega arith)
+    follow_is None rest a e = absurd (cc)
     follow_is (Some r) rest a e = (r, refl, e)
 
     made_is : (r : Row A) (x : Result (List ℤ) Flaw) (a : A) → made_by r x ≡ Ok a → (vs : List ℤ) × (x ≡ Ok vs) × (r.make vs ≡ a)
     made_is r (Ok vs) a e = (vs, refl, cc)
-    made_is r (Err f) a e = absurd (let z : ◌≡◌ {A = ℕ} 0 1 = cc in omega arith)
+    made_is r (Err f) a e = absurd (cc)
 
     pub line_is : (rows : List (Row A)) → Each G rows → (l : List ℕ) (a : A) → line_as n rows l ≡ Ok a → G a l
     line_is rows g l a e =

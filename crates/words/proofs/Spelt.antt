@@ -116,11 +116,11 @@ plain_is ds h s = decimal-digits_value own ds (plain_digits ds h) (plain_some ds
 -- a test that was passed
 pub some_if : {A : Type 0} (b : Bool) (x y : A) → cond b (Some x) None ≡ Some y → (b ≡ true) × (x ≡ y)
 some_if true x y e = (refl, cc)
-some_if false x y e = absurd (let z : ◌≡◌ {A = ℕ} 0 1 = cc in omega arith)
+some_if false x y e = absurd (cc)
 
 pub some_when : {A : Type 0} (b : Bool) (o : Option A) (y : A) → cond b o None ≡ Some y → (b ≡ true) × (o ≡ Some y)
 some_when true o y e = (refl, e)
-some_when false o y e = absurd (let z : ◌≡◌ {A = ℕ} 0 1 = cc in omega arith)
+some_when false o y e = absurd (cc)
 
 unsigned_is : (w : List ℕ) (z : ℤ) → mag z < 2 ^ 31 → unsigned_word w ≡ Some z → w ≡ signed_decimal z
 unsigned_is w z m e =
@@ -128,7 +128,7 @@ unsigned_is w z m e =
     sym (plain_is w two.0 (omega (arith, ap mag two.1))) ∙ ap signed_decimal two.1
 
 lettered_is : (c : ℕ) (w : List ℕ) (z : ℤ) → mag z < 2 ^ 31 → lettered_word c w ≡ Some z → w ≡ c ∷ signed_decimal z
-lettered_is c [] z m e = absurd (let z : ◌≡◌ {A = ℕ} 0 1 = cc in omega arith)
+lettered_is c [] z m e = absurd (cc)
 lettered_is c (d ∷ ds) z m e =
     let two = some_when (eqb d c) (unsigned_word ds) z e in
     λ i. eqb-true d c two.0 i ∷ unsigned_is ds z m two.1 i
@@ -153,7 +153,7 @@ signed_is_by c ds z true h m e = ap (λ d. d ∷ ds) (h refl) ∙ minus_is ds z 
 signed_is_by c ds z false h m e = unsigned_is (c ∷ ds) z m e
 
 signed_is : (w : List ℕ) (z : ℤ) → mag z < 2 ^ 31 → signed_word w ≡ Some z → w ≡ signed_decimal z
-signed_is [] z m e = absurd (let z : ◌≡◌ {A = ℕ} 0 1 = cc in omega arith)
+signed_is [] z m e = absurd (cc)
 signed_is (c ∷ ds) z m e = signed_is_by c ds z (eqb c 45) (eqb-true c 45) m e
 
 shape_is : (k : Kind) (w : List ℕ) (z : ℤ) → mag z < 2 ^ 31 → shape k w ≡ Some z → w ≡ spell k z
@@ -166,10 +166,10 @@ shape_is CountWord w z m e = unsigned_is w z m e
 
 ok_if : (b : Bool) (x y : ℤ) → cond b (Ok x) (Err Range) ≡ Ok y → (b ≡ true) × (x ≡ y)
 ok_if true x y e = (refl, cc)
-ok_if false x y e = absurd (let z : ◌≡◌ {A = ℕ} 0 1 = cc in omega arith)
+ok_if false x y e = absurd (cc)
 
 ranged_is : (n : ℕ) (k : Kind) (o : Option ℤ) (z : ℤ) → checked (within n k) o ≡ Ok z → (o ≡ Some z) × (within n k z ≡ true)
-ranged_is n k None z e = absurd (let z : ◌≡◌ {A = ℕ} 0 1 = cc in omega arith)
+ranged_is n k None z e = absurd (cc)
 ranged_is n k (Some y) z e = let two = ok_if (within n k y) y z e in (ap Some two.1, sym (ap (within n k) two.1) ∙ two.0)
 
 pub operand_is : (n : ℕ) → n ≤ most_blocks → (k : Kind) (w : List ℕ) (z : ℤ) → operand n k w ≡ Ok z → (w ≡ spell k z) × (within n k z ≡ true)

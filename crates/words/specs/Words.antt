@@ -32,8 +32,11 @@ shape SizeWord w = unsigned_word w
 shape CountWord w = unsigned_word w
 
 -- from low up to end, without end
+abbrev pub between : ℕ → ℕ → ℕ → Bool
+between low end v = not (nat_lt v low) && nat_lt v end
+
 abbrev pub from_to : ℕ → ℕ → ℤ → Bool
-from_to low end (pos v) = not (nat_lt v low) && nat_lt v end
+from_to low end (pos v) = between low end v
 from_to low end (negsuc v) = false
 
 -- signed, of 32 bits; negsuc v is -(v + 1)
@@ -57,7 +60,7 @@ spell BlockWord z = 98 ∷ signed_decimal z
 spell SizeWord z = signed_decimal z
 spell CountWord z = signed_decimal z
 
-abbrev pub checked : (ℤ → Bool) → Option ℤ → Result ℤ Flaw
+abbrev pub checked : {A : Type 0} → (A → Bool) → Option A → Result A Flaw
 checked test None = Err Form
 checked test (Some z) = cond (test z) (Ok z) (Err Range)
 

@@ -1,6 +1,7 @@
 // Cuts a line into words that borrow it, and reads the words after the first.
-ghost use Rattle.std.specs.Prelude.{◌≡◌, ◌+◌, ◌<◌, ◌≤◌, [], ◌∷◌, length, take, drop, Some, None, Ok, Err, slice_set};
+ghost use Rattle.std.specs.Prelude.{◌≡◌, ◌<◌, ◌≤◌, [], ◌∷◌, length};
 ghost use Rattle.std.specs.Option.{option_map};
+ghost use Rattle.std.specs.Result.{result_map_both};
 ghost use Rattle.words.specs.Forms.{made_by, contents_row};
 ghost use Rattle.words.specs.Table.{kinds_of};
 ghost use Rattle.words.specs.Words.{cut as cut_at, operands as operands_of};
@@ -10,91 +11,58 @@ use super::kind::Kind;
 use super::operand::operand;
 use super::table::kinds;
 use super::verb::Verb;
+use arrayvec::ArrayVec;
 
-// The first place of a byte, or the length.
-fn first_of(bytes: &[u8], byte: u8) -> usize
-    ensures inside { result ≤ length bytes.now }
-    ensures found { result < length bytes.now → cut_at byte bytes.now ≡ (take result bytes.now, Some (drop (result + 1) bytes.now)) }
-    ensures none { result ≡ length bytes.now → cut_at byte bytes.now ≡ (bytes.now, None) }
-{
-    for (i, x) in bytes.iter().enumerate() {
-        if *x == byte {
-            return i;
-        }
-    }
-    bytes.len()
-}
+// The numbers of a line's operands: no line has more than three.
+pub type Operands = ArrayVec<i32, 3>;
 
 // What stands before the first such byte, and what follows it, if there is one.
 pub fn cut(bytes: &[u8], byte: u8) -> (&[u8], Option<&[u8]>)
     ensures front { result.0.now ≡ (cut_at byte bytes.now).0 }
     ensures back { option_map (λ x. x.now) result.1 ≡ (cut_at byte bytes.now).1 }
 {
-    let at = first_of(bytes, byte);
-    if at < bytes.len() {
-        (&bytes[..at], Some(&bytes[at + 1..]))
-    } else {
-        (bytes, None)
+    match bytes.iter().position(|x| *x == byte) {
+        Some(at) => (&bytes[..at], Some(&bytes[at + 1..])),
+        None => (bytes, None),
     }
 }
 
-// Sets one of the numbers.
-fn put(values: &mut [i32], i: usize, x: i32)
-    requires { i < length values.old }
-    ensures { values.new ≡ slice_set values.old i x }
-{
-    values[i] = x;
-}
-
-// The numbers of words of these kinds, from what follows the space after the word before them.
-fn values(kinds: &[Kind], blocks: u8, rest: Option<&[u8]>) -> Result<[i32; 3], Flaw>
+// The numbers of words of these kinds, from what follows the space after the word before them. A word of the wrong form
+// goes before a number out of range.
+fn values(kinds: &[Kind], blocks: u8, rest: Option<&[u8]>) -> Result<Operands, Flaw>
     requires { length kinds.now ≤ 3 }
-    ensures { elim result [ Ok v ↦ operands_of blocks kinds.now (option_map (λ x. x.now) rest.entry) ≡ Ok (take (length kinds.now) v) | Err f ↦ operands_of blocks kinds.now (option_map (λ x. x.now) rest.entry) ≡ Err f ] }
+    ensures { result_map_both (λ v. v.items) (λ f. f) result ≡ operands_of blocks kinds.now (option_map (λ x. x.now) rest.entry) }
 {
-    let mut v = [0; 3];
-    let mut far = false;
+    let mut numbers = Operands::new();
+    let mut in_range = Ok(());
     let mut left = rest;
-    for (i, kind) in kinds.iter().enumerate() {
-        let Some(bytes) = left else {
-            return Err(Flaw::Form);
-        };
-        let (word, more) = cut(bytes, b' ');
-        let found = operand(*kind, blocks, word);
-        match found {
-            Ok(x) => put(&mut v, i, x),
-            Err(flaw) => match flaw {
-                Flaw::Range => far = true,
-                Flaw::Form => return Err(Flaw::Form),
-            },
+    for kind in kinds {
+        let (word, more) = cut(left.ok_or(Flaw::Form)?, b' ');
+        match operand(*kind, blocks, word) {
+            Ok(x) => numbers.push(x),
+            Err(Flaw::Range) => in_range = Err(Flaw::Range),
+            Err(Flaw::Form) => return Err(Flaw::Form),
         }
         left = more;
     }
     if left.is_some() {
-        Err(Flaw::Form)
-    } else if far {
-        Err(Flaw::Range)
-    } else {
-        Ok(v)
+        return Err(Flaw::Form);
     }
+    in_range?;
+    Ok(numbers)
 }
 
-// The numbers of a node's operands, in a script of so many blocks; a node has at most three.
-pub fn operands(verb: Verb, blocks: u8, rest: Option<&[u8]>) -> Result<[i32; 3], Flaw>
-    ensures { elim result [ Ok v ↦ operands_of blocks (kinds_of verb) (option_map (λ x. x.now) rest.entry) ≡ Ok (take (length (kinds_of verb)) v) | Err f ↦ operands_of blocks (kinds_of verb) (option_map (λ x. x.now) rest.entry) ≡ Err f ] }
+// The numbers of a node's operands, in a script of so many blocks.
+pub fn operands(verb: Verb, blocks: u8, rest: Option<&[u8]>) -> Result<Operands, Flaw>
+    ensures { result_map_both (λ v. v.items) (λ f. f) result ≡ operands_of blocks (kinds_of verb) (option_map (λ x. x.now) rest.entry) }
 {
-    match values(kinds(verb), blocks, rest) {
-        Ok(v) => Ok(v),
-        Err(flaw) => Err(flaw),
-    }
+    values(kinds(verb), blocks, rest)
 }
 
 // The one number that follows the first word of a line, as what a header or a contents line makes of it.
 pub fn one_number(kind: Kind, rest: Option<&[u8]>) -> Result<u32, Flaw>
     ensures { result ≡ made_by (contents_row 0) (operands_of 0 (kind ∷ []) (option_map (λ x. x.now) rest.entry)) }
 {
-    let kinds = [kind];
-    match values(&kinds, 0, rest) {
-        Ok(v) => Ok(v[0].unsigned_abs()),
-        Err(flaw) => Err(flaw),
-    }
+    let numbers = values(&[kind], 0, rest)?;
+    Ok(numbers[0].unsigned_abs())
 }

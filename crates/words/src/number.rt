@@ -2,9 +2,10 @@
 ghost use Rattle.std.specs.Prelude.{◌≡◌, ◌^◌, ◌≤◌, min, if◌then◌else◌, Some, None};
 ghost use Rattle.std.specs.Str.{all_ascii_digits};
 ghost use Rattle.words.specs.Numbers.{plain, value, unsigned_word, minus_word, signed_word};
-ghost use Rattle.words.specs.Words.{checked, from_to, word32};
+ghost use Rattle.words.specs.Words.{between, checked, from_to, word32};
 
 use super::flaw::Flaw;
+use std::ops::Range;
 
 // Past every range: a number that is larger is read as this one.
 const FAR: u64 = 1 << 32;
@@ -21,7 +22,7 @@ fn scan(digits: &[u8]) -> Option<u64>
         if !d.is_ascii_digit() {
             return None;
         }
-        n = (n * 10 + (*d - b'0') as u64).min(FAR);
+        n = (n * 10 + u64::from(*d - b'0')).min(FAR);
     }
     Some(n)
 }
@@ -31,45 +32,39 @@ fn number(digits: &[u8]) -> Option<u64>
     ensures { result ≡ (if plain digits.now then Some (min (value digits.now) (2 ^ 32)) else None) }
 {
     match digits {
-        [] => None,
-        [b'0', _, ..] => None,
+        [] | [b'0', _, ..] => None,
         _ => scan(digits),
     }
 }
 
-// A number without a sign, from `low` up to `end`, without `end`.
-pub(crate) fn unsigned(digits: &[u8], low: u64, end: u64) -> Result<i32, Flaw>
-    requires { end ≤ 2 ^ 31 }
-    ensures { result ≡ checked (from_to low end) (unsigned_word digits.now) }
+// A number in this range, or what is wrong with it.
+fn within(number: Option<u64>, range: Range<u64>) -> Result<u64, Flaw>
+    ensures { result ≡ checked (between range.start range.end) number }
 {
-    match number(digits) {
-        Some(v) if v >= low && v < end => Ok(v as i32),
-        Some(_) => Err(Flaw::Range),
-        None => Err(Flaw::Form),
+    let n = number.ok_or(Flaw::Form)?;
+    if range.contains(&n) {
+        Ok(n)
+    } else {
+        Err(Flaw::Range)
     }
 }
 
-// A number of 32 bits without a sign.
-fn plus(digits: &[u8]) -> Result<i32, Flaw>
-    ensures { result ≡ checked word32 (unsigned_word digits.now) }
+// A number without a sign.
+pub(crate) fn unsigned(digits: &[u8], range: Range<u64>) -> Result<i32, Flaw>
+    requires { range.end ≤ 2 ^ 31 }
+    ensures { result ≡ checked (from_to range.start range.end) (unsigned_word digits.now) }
 {
-    match number(digits) {
-        Some(v) if v < HALF => Ok(v as i32),
-        Some(_) => Err(Flaw::Range),
-        None => Err(Flaw::Form),
-    }
+    let n = within(number(digits), range)?;
+    Ok(n as i32)
 }
 
-// What follows a minus sign.
+// What follows a minus sign. There is no -0.
 fn minus(digits: &[u8]) -> Result<i32, Flaw>
     ensures { result ≡ checked word32 (minus_word digits.now) }
 {
-    match number(digits) {
-        Some(0) => Err(Flaw::Form),
-        Some(v) if v <= HALF => Ok((-(v as i64)) as i32),
-        Some(_) => Err(Flaw::Range),
-        None => Err(Flaw::Form),
-    }
+    let size = number(digits).filter(|n| *n != 0);
+    let n = within(size, 0..HALF + 1)?;
+    Ok((-(n as i64)) as i32)
 }
 
 // A number of 32 bits, with a minus sign or without.
@@ -78,6 +73,6 @@ pub fn signed(word: &[u8]) -> Result<i32, Flaw>
 {
     match word {
         [b'-', digits @ ..] => minus(digits),
-        _ => plus(word),
+        _ => unsigned(word, 0..HALF),
     }
 }
