@@ -2,6 +2,5 @@ pub mod Cuts
 pub mod Digits
 pub mod Rows
 pub mod Spelt
-pub mod Steps
 pub mod Values
 pub mod Verbs
