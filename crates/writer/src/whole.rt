@@ -1,5 +1,5 @@
 // Writes a whole text.
-ghost use Rattle.std.specs.Prelude.{◌≡◌, ℕ, ◌≤◌, List, length, Ok, Err};
+ghost use Rattle.std.specs.Prelude.{◌≡◌, ℕ, ◌≤◌, List, length, Ok};
 ghost use Rattle.reader.specs.Read.{read};
 ghost use Rattle.script.specs.Limits.{most_bytes};
 ghost use Rattle.script.specs.Model.{program_of};
@@ -9,41 +9,28 @@ ghost use Rattle.writer.specs.Wrote.{Wrote};
 
 use super::bodies::{put_bodies, put_counts};
 use super::line::put_header;
-use script::limits::MOST_BYTES;
+use super::put::Page;
+use arrayvec::CapacityError;
 use script::store::Script;
 
-// The whole text, from the beginning of the page on.
-fn put_text(out: &mut [u8], script: &Script) -> Option<usize>
-    ensures { Wrote result out.old 0 (text_of (program_of script.now)) out.new }
+// The whole text, after what stands on the page.
+fn put_text(page: &mut Page, script: &Script) -> Result<(), CapacityError>
+    ensures { Wrote result page.old.items (text_of (program_of script.now)) page.new.items }
 {
-    match put_header(out, 0, script.block_count() as u8) {
-        Some(first) => match put_counts(out, first, script) {
-            Some(second) => match put_bodies(out, second, script) {
-                Some(end) => Some(end),
-                None => None,
-            },
-            None => None,
-        },
-        None => None,
-    }
+    put_header(page, script.block_count() as u8)?;
+    put_counts(page, script)?;
+    put_bodies(page, script)
 }
 
-// Writes the text by way of a page that every text fits into.
-fn write_page(script: &Script, out: &mut [u8]) -> Option<usize>
-    ensures { Writes result (text_of (program_of script.now)) out.old out.new }
+// The page with the whole text.
+fn text_page(script: &Script) -> Page
+    ensures { result.items ≡ text_of (program_of script.now) }
 {
     script.numbers_fit();
-    let mut page = [0; MOST_BYTES];
+    let mut page = Page::new();
     match put_text(&mut page, script) {
-        Some(end) => {
-            if out.len() < end {
-                None
-            } else {
-                out[..end].copy_from_slice(&page[..end]);
-                Some(end)
-            }
-        }
-        None => unreachable(),
+        Ok(()) => page,
+        Err(_) => unreachable(),
     }
 }
 
@@ -55,5 +42,7 @@ pub fn write(script: &Script, out: &mut [u8]) -> Option<usize>
     ensures same { (t : List ℕ) → read t ≡ Ok (program_of script.now) → text_of (program_of script.now) ≡ t }
 {
     script.numbers_fit();
-    write_page(script, out)
+    let page = text_page(script);
+    out.get_mut(..page.len())?.copy_from_slice(&page);
+    Some(page.len())
 }
