@@ -8,7 +8,7 @@ use Rattle.script.specs.Run.{Block, Program}
 use Rattle.script.specs.declared.block.BlockEnd.{BlockEnd}
 use Rattle.script.specs.Shape.{ends_at, all_below, below}
 use Rattle.script.specs.Model.{blocks_from}
-use Rattle.script.proofs.Blocks.{ends_up}
+use Rattle.script.proofs.Stored.{ends_up}
 use Rattle.reader.specs.declared.fault.Fault.{Fault}
 use Rattle.words.specs.Words.{from_to}
 use Rattle.words.specs.Forms.{last_rows, go_row, if_row}

@@ -1,5 +1,5 @@
-pub mod Blocks
 pub mod Fitting
 pub mod Registers
 pub mod Same
+pub mod Stored
 pub mod Whole

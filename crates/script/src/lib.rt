@@ -8,6 +8,7 @@
 
 pub mod arithmetic;
 pub mod block;
+pub mod blocks;
 pub mod limits;
 pub mod looks;
 pub mod node;

@@ -1,8 +1,9 @@
 // Makes a script, and looks at its blocks.
 ghost use Rattle.std.specs.Prelude.{◌≡◌, ◌-◌, ◌<◌, ◌≤◌, length, take, drop, IfOk, Some, None};
-ghost use Rattle.script.specs.Model.{program_of, blank, blank_end, found, begin_at, middle_count};
+ghost use Rattle.script.specs.Model.{program_of, blocks_from, blank, found, begin_at, middle_count};
 
 use super::block::{Block, BlockEnd};
+use super::blocks::Blocks;
 use super::limits::{MOST_BLOCKS, MOST_MIDDLES};
 use super::node::Middle;
 use super::store::Script;
@@ -33,6 +34,17 @@ impl Script {
         self.middles.len()
     }
 
+    // The blocks, in order.
+    pub fn blocks(&self) -> Blocks<'_>
+        ensures { blocks_from result.middles.now result.from result.ends.now ≡ program_of self.now }
+    {
+        Blocks {
+            middles: self.middles.as_slice(),
+            from: 0,
+            ends: self.blocks.as_slice(),
+        }
+    }
+
     // Block i, if there is one.
     pub fn block(&self, i: usize) -> Option<Block<'_>>
         ensures { elim result [ Some b ↦ found (program_of self.now) i ≡ Some (b.middles.now, b.last) | None ↦ found (program_of self.now) i ≡ None ] }
@@ -55,7 +67,7 @@ impl Script {
 }
 
 // The nodes from one place up to another.
-fn part(nodes: &[Middle], from: usize, to: usize) -> &[Middle]
+pub(crate) fn part(nodes: &[Middle], from: usize, to: usize) -> &[Middle]
     requires order { from ≤ to }
     requires inside { to ≤ length nodes.now }
     ensures { result.now ≡ take (to - from) (drop from nodes.now) }

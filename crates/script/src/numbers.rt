@@ -13,16 +13,11 @@ fn number_fits(node: Middle)
     ensures { Fit node }
 {
     match node {
-        Middle::Set { to: _, value: _ } => {}
-        Middle::Mov { to: _, from: _ } => {}
-        Middle::Compute {
-            operation: _,
-            to: _,
-            left: _,
-            right: _,
-        } => {}
-        Middle::Get { to: _, slot: _ } => {}
-        Middle::Put { from: _ } => {}
+        Middle::Set { .. }
+        | Middle::Mov { .. }
+        | Middle::Compute { .. }
+        | Middle::Get { .. }
+        | Middle::Put { .. } => {}
     }
 }
 

@@ -10,7 +10,7 @@ use Rattle.script.specs.declared.node.Last.{Last}
 use Rattle.script.specs.declared.node.Last.TheVariants.{Go, If, End}
 use Rattle.script.specs.declared.node.Middle.{Middle}
 use Rattle.script.specs.declared.store.Script.{Script}
-use Rattle.script.proofs.Blocks.{blocks_many, middles_counted}
+use Rattle.script.proofs.Stored.{blocks_many, middles_counted}
 
 -- the blocks that a last node names are among the n
 abbrev pub Below : ℕ → Last → Type 0

@@ -1,6 +1,6 @@
 use Rattle.std.proofs.Common.{◌≡◌, suc, ◌-◌, vec_items, sym, ap, ◌∙◌, arith}
 use Rattle.script.specs.Model.{begin_at}
-use Rattle.script.proofs.Blocks.{begin_first, begin_next}
+use Rattle.script.proofs.Stored.{begin_first, begin_next}
 use Rattle.script.proofs.store.Script.begin.Goals as goal
 
 pub returns-then-i-eq0 : goal.returns-then-i-eq0

@@ -1,6 +1,6 @@
-use Rattle.std.proofs.Common.{◌≡◌, ◌-◌, ◌<◌, ◌≤◌, length, get_or, take, drop, Some, vec_items, sym, ap, ◌∙◌, arith}
+use Rattle.std.proofs.Common.{◌-◌, ◌<◌, ◌≤◌, length, get_or, take, drop, Some, vec_items, sym, ap, ◌∙◌, arith}
 use Rattle.std.proofs.lemmas.Bool.{ltb-false}
-use Rattle.script.proofs.Blocks.{bounds, found_at, missing_at}
+use Rattle.script.proofs.Stored.{bounds, found_at, missing_at}
 use Rattle.script.proofs.store.Script.block.Goals as goal
 
 pub returns-in_err-stored : goal.returns-in_err-stored

@@ -1,5 +1,5 @@
 use Rattle.std.proofs.Common.{vec_items, sym, ◌∙◌}
-use Rattle.script.proofs.Blocks.{blocks_many}
+use Rattle.script.proofs.Stored.{blocks_many}
 use Rattle.script.proofs.store.Script.block_count.Goals as goal
 
 pub returns : goal.returns

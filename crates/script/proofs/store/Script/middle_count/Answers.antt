@@ -1,5 +1,5 @@
 use Rattle.std.proofs.Common.{vec_items, sym, ◌∙◌}
-use Rattle.script.proofs.Blocks.{middles_counted}
+use Rattle.script.proofs.Stored.{middles_counted}
 use Rattle.script.proofs.store.Script.middle_count.Goals as goal
 
 pub returns : goal.returns
