@@ -11,6 +11,9 @@ use Rattle.writer.specs.Wrote.{Wrote}
 pub record Left (old whole now left : List ℕ) : Type 0 where
   pub splits : now ++ left ≡ old ++ whole
 
+pub left_start : (old whole left : List ℕ) → left ≡ whole → Left old whole old left
+left_start old whole left e = record { splits = ap (λ l. old ++ l) e }
+
 module _ {old whole now left : List ℕ} (s : Left old whole now left) where
   -- a piece was written, and the rest is left
   pub left_more : (piece rest next : List ℕ) → left ≡ piece ++ rest → next ≡ now ++ piece → Left old whole next rest
@@ -22,6 +25,11 @@ module _ {old whole now left : List ℕ} (s : Left old whole now left) where
   left_full (Ok done) piece rest next x e w = absurd (true≢false (sym x))
   left_full (Err full) piece rest next x e w =
       omega (arith, w, ap length s.splits, ap length e, length-append now left, length-append old whole, length-append piece rest)
+
+  -- what is left was written at once, or did not fit
+  pub left_last : {A E : Type 0} (r : Result A E) (next : List ℕ) → Wrote r now left next → Wrote r old whole next
+  left_last (Ok done) next w = w ∙ s.splits
+  left_last (Err full) next w = omega (arith, w, ap length s.splits, length-append now left, length-append old whole)
 
   -- nothing is left
   pub left_none : left ≡ [] → now ≡ old ++ whole

@@ -33,10 +33,7 @@ fn put_block(page: &mut Page, block: Block<'_>) -> Result<(), CapacityError>
 pub(crate) fn put_counts(page: &mut Page, script: &Script) -> Result<(), CapacityError>
     ensures { Wrote result page.old.items (counts_text 0 (counts (program_of script.now)) []) page.new.items }
 {
-    for i in 0..script.block_count() {
-        let Some(block) = script.block(i) else {
-            unreachable()
-        };
+    for (i, block) in script.blocks().enumerate() {
         put_count(page, i as u8, block.middles.len() as u16)?;
     }
     Ok(())
@@ -46,10 +43,7 @@ pub(crate) fn put_counts(page: &mut Page, script: &Script) -> Result<(), Capacit
 pub(crate) fn put_bodies(page: &mut Page, script: &Script) -> Result<(), CapacityError>
     ensures { Wrote result page.old.items (bodies_text (program_of script.now) []) page.new.items }
 {
-    for i in 0..script.block_count() {
-        let Some(block) = script.block(i) else {
-            unreachable()
-        };
+    for block in script.blocks() {
         put_block(page, block)?;
     }
     Ok(())

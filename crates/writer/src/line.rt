@@ -1,14 +1,13 @@
 // Puts whole lines onto a page.
-ghost use Rattle.std.specs.Prelude.{◌≡◌, [], ◌∷◌, ◌++◌, length};
-ghost use Rattle.words.specs.Forms.{compute_row, row_text};
+ghost use Rattle.std.specs.Prelude.{[], ◌∷◌, ◌++◌};
 ghost use Rattle.words.specs.Table.{name_of, kinds_of};
 ghost use Rattle.words.specs.Words.{spaced};
 ghost use Rattle.writer.specs.Text.{header_text, count_text, middle_text, last_text};
 ghost use Rattle.writer.specs.Wrote.{Wrote};
 
-use super::put::{put_lettered, put_operands, Page};
+use super::put::{Page, put_lettered, put_operands};
 use arrayvec::CapacityError;
-use script::node::{Last, Middle, Operation};
+use script::node::{Last, Middle};
 use words::kind::Kind;
 use words::table::{kinds, name};
 use words::verb::Verb;
@@ -45,20 +44,6 @@ fn put_node(page: &mut Page, verb: Verb, values: &[i32]) -> Result<(), CapacityE
     put_rest(page, kinds(verb), values)
 }
 
-fn put_compute(page: &mut Page, operation: Operation, values: &[i32]) -> Result<(), CapacityError>
-    ensures { Wrote result page.old.items (row_text (compute_row operation) values.now ++ 10 ∷ []) page.new.items }
-{
-    match operation {
-        Operation::Add => put_node(page, Verb::Add, values),
-        Operation::Sub => put_node(page, Verb::Sub, values),
-        Operation::Mul => put_node(page, Verb::Mul, values),
-        Operation::Div => put_node(page, Verb::Div, values),
-        Operation::Rem => put_node(page, Verb::Rem, values),
-        Operation::Lt => put_node(page, Verb::Lt, values),
-        Operation::Eq => put_node(page, Verb::Eq, values),
-    }
-}
-
 // The line of a middle node.
 pub(crate) fn put_middle(page: &mut Page, node: Middle) -> Result<(), CapacityError>
     ensures { Wrote result page.old.items (middle_text node ++ 10 ∷ []) page.new.items }
@@ -75,9 +60,9 @@ pub(crate) fn put_middle(page: &mut Page, node: Middle) -> Result<(), CapacityEr
             to,
             left,
             right,
-        } => put_compute(
+        } => put_node(
             page,
-            operation,
+            Verb::from(operation),
             &[
                 i32::from(to.index),
                 i32::from(left.index),

@@ -22,16 +22,16 @@ fn put_text(page: &mut Page, script: &Script) -> Result<(), CapacityError>
     put_bodies(page, script)
 }
 
-// The page with the whole text.
-fn text_page(script: &Script) -> Page
-    ensures { result.items ≡ text_of (program_of script.now) }
+// Copies a text to the beginning of lent bytes and answers its length, or leaves them all as they were where it does not fit.
+fn copy_out(text: &[u8], out: &mut [u8]) -> Option<usize>
+    ensures { Writes result text.now out.old out.new }
 {
-    script.numbers_fit();
-    let mut page = Page::new();
-    match put_text(&mut page, script) {
-        Ok(()) => page,
-        Err(_) => unreachable(),
+    // Not by `get_mut(..)?`: once its borrow is over, no clause says what the other bytes are, and the proof needs that.
+    if out.len() < text.len() {
+        return None;
     }
+    out[..text.len()].copy_from_slice(text);
+    Some(text.len())
 }
 
 // Writes a script's text and answers its length, or leaves all bytes as they were where it does not fit.
@@ -42,7 +42,9 @@ pub fn write(script: &Script, out: &mut [u8]) -> Option<usize>
     ensures same { (t : List ℕ) → read t ≡ Ok (program_of script.now) → text_of (program_of script.now) ≡ t }
 {
     script.numbers_fit();
-    let page = text_page(script);
-    out.get_mut(..page.len())?.copy_from_slice(&page);
-    Some(page.len())
+    let mut page = Page::new();
+    let Ok(()) = put_text(&mut page, script) else {
+        unreachable()
+    };
+    copy_out(&page, out)
 }
