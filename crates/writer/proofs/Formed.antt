@@ -1,9 +1,10 @@
 -- What always holds of a script, said of its list of blocks.
 use Rattle.std.proofs.Common.{◌≡◌, ℕ, ◌<◌, ◌≤◌, true, List, [], ◌∷◌, length, vec_items, sym, subst, arith}
 use Rattle.std.proofs.lemmas.Bool.{ltb-true, and_parts}
+use Rattle.std.specs.List.{AllByRecursion}
 use Rattle.script.specs.Limits.{most_blocks, most_middles}
 use Rattle.script.specs.Model.{blocks_from, program_of, middle_count}
-use Rattle.script.specs.Run.{Program, Fits}
+use Rattle.script.specs.Run.{Block, Program, Fits}
 use Rattle.script.specs.Shape.{below, all_below}
 use Rattle.script.specs.declared.block.BlockEnd.{BlockEnd}
 use Rattle.script.specs.declared.node.Last.{Last}
@@ -19,8 +20,7 @@ Below n (If test then other) = (then < n) × (other < n)
 Below n (End from) = Unit {0}
 
 abbrev pub EachBelow : ℕ → Program → Type 0
-EachBelow n [] = Unit {0}
-EachBelow n (b ∷ bs) = Below n b.1 × EachBelow n bs
+EachBelow n = AllByRecursion (λ (b : Block). Below n b.1)
 
 pub record WellFormed (p : Program) : Type 0 where
   pub some : 1 ≤ length p

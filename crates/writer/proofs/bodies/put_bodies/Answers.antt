@@ -1,11 +1,8 @@
-use Rattle.std.proofs.Common.{[], ◌∷◌, ◌++◌, ap, ◌∙◌}
+use Rattle.std.proofs.Common.{[], ◌∷◌, ◌++◌}
 use Rattle.writer.specs.Text.{middles_text, last_text, bodies_text}
-use Rattle.writer.proofs.Puts.{left_start, left_more, left_full, left_none}
+use Rattle.writer.proofs.Puts.{left_more, left_full}
 use Rattle.writer.proofs.Texts.{blocks_left, bodies_first}
 use Rattle.writer.proofs.bodies.put_bodies.Goals as goal
-
-pub loop-block-init : goal.loop-block-init
-loop-block-init c = left_start _ _ _ (ap (λ b. bodies_text (blocks_left b) []) c.into_iter-block-iterator.ensures.into_iter_gives ∙ ap (λ p. bodies_text p []) c.blocks-block-items.ensures)
 
 pub loop-block-preserved : goal.loop-block-preserved
 loop-block-preserved c =
@@ -19,5 +16,3 @@ returns-in_err-put_block c =
     left_full c.loop-block.invariant c.from_residual.result (middles_text b.middles.now [] ++ (last_text b.last ++ 10 ∷ [])) (bodies_text (blocks_left c.next.new.self) []) _ c.from_residual.ensures.0
     (bodies_first (blocks_left c.loop-block.block-iterator) (b.middles.now, b.last) (blocks_left c.next.new.self) c.in-Some.ensures.steps) c.in_err-put_block.ensures
 
-pub returns : goal.returns
-returns c = left_none c.loop-block.invariant (ap (λ p. bodies_text p []) c.in-None.ensures.steps.0)

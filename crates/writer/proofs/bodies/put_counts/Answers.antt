@@ -4,7 +4,7 @@ use mathlib.Core.Logic.{inl}
 use Rattle.script.specs.Model.{program_of, middle_count}
 use Rattle.script.proofs.Stored.{blocks_many, middles_counted}
 use Rattle.writer.specs.Text.{count_text, counts_text, counts}
-use Rattle.writer.proofs.Puts.{left_start, left_more, left_full, left_none}
+use Rattle.writer.proofs.Puts.{left_full}
 use Rattle.writer.proofs.Texts.{blocks_left, counts_first}
 use Rattle.writer.proofs.bodies.put_counts.Goals as goal
 
@@ -17,14 +17,6 @@ loop-i-init-derived c =
     ap (λ e. blocks_left (enumerate_source e)) it ∙ ap blocks_left c.enumerate-i-items.ensures.source ∙ c.blocks-2.ensures in
     ((tt, tt, inl (omega (arith, none, ap length all, blocks_many (vec_items s.middles) 0 (vec_items s.blocks), s.few))), tt)
 
-pub loop-i-init : goal.loop-i-init
-loop-i-init c =
-    let it = c.into_iter-i-iterator.ensures.into_iter_gives in
-    let none : enumerate_count c.into_iter-i-iterator.result ≡ 0 = ap enumerate_count it ∙ c.enumerate-i-items.ensures.count in
-    let all : blocks_left (enumerate_source c.into_iter-i-iterator.result) ≡ program_of c.args.script.now =
-    ap (λ e. blocks_left (enumerate_source e)) it ∙ ap blocks_left c.enumerate-i-items.ensures.source ∙ c.blocks-2.ensures in
-    (left_start _ _ _ (λ j. counts_text (none j) (counts (all j)) []), omega (arith, none, ap length all), omega (arith, ap middle_count all))
-
 pub overflow_cast-i : goal.overflow_cast-i
 overflow_cast-i c =
     let s = c.args.script.now in
@@ -36,16 +28,6 @@ overflow_cast-block c =
     let s = c.args.script.now in
     record { fits = omega (arith, ap middle_count c.in-Some.ensures.steps.0, c.loop-i.invariant.2, middles_counted (vec_items s.middles) (vec_items s.blocks) s.ends, s.small) }
 
-pub loop-i-preserved : goal.loop-i-preserved
-loop-i-preserved c =
-    let step = c.in-Some.ensures.steps in (
-      left_more c.loop-i.invariant.0 (count_text c.in-Some.i (length c.in-Some.block.middles.now) ++ 10 ∷ []) (counts_text (enumerate_count c.next.new.self) (counts (blocks_left (enumerate_source c.next.new.self))) []) _
-          (counts_first (enumerate_count c.loop-i.i-iterator) c.in-Some.i (enumerate_count c.next.new.self) (blocks_left (enumerate_source c.loop-i.i-iterator)) (c.in-Some.block.middles.now, c.in-Some.block.last) _ step.0 step.1 step.2)
-          c.in_ok-put_count.ensures,
-      omega (arith, step.2, ap length step.0, c.loop-i.invariant.1),
-      omega (arith, ap middle_count step.0, c.loop-i.invariant.2),
-    )
-
 pub returns-in_err-put_count : goal.returns-in_err-put_count
 returns-in_err-put_count c =
     let step = c.in-Some.ensures.steps in
@@ -54,5 +36,3 @@ returns-in_err-put_count c =
     (counts_first (enumerate_count c.loop-i.i-iterator) c.in-Some.i (enumerate_count c.next.new.self) (blocks_left (enumerate_source c.loop-i.i-iterator)) (c.in-Some.block.middles.now, c.in-Some.block.last) _ step.0 step.1 step.2)
     c.in_err-put_count.ensures
 
-pub returns : goal.returns
-returns c = left_none c.loop-i.invariant.0 (ap (λ p. counts_text (enumerate_count c.loop-i.i-iterator) (counts p) []) c.in-None.ensures.steps.0.0)

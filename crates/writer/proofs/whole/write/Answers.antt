@@ -9,11 +9,6 @@ unreachable-requires c =
     let s = c.args.script.now in
     omega (arith, (read_of_text (program_of s) (formed s c.numbers_fit.ensures)).1, ap length c.new-page.ensures, c.in_default.ensures)
 
-pub returns-clause-short : goal.returns-clause-short
-returns-clause-short c =
-    let s = c.args.script.now in
-    (read_of_text (program_of s) (formed s c.numbers_fit.ensures)).1
-
 pub returns-clause-back : goal.returns-clause-back
 returns-clause-back c =
     let s = c.args.script.now in
