@@ -34,6 +34,7 @@ pub(crate) fn put_counts(page: &mut Page, script: &Script) -> Result<(), Capacit
     ensures { Wrote result page.old.items (counts_text 0 (counts (program_of script.now)) []) page.new.items }
 {
     for (i, block) in script.blocks().enumerate() {
+        // `as`: a try_from would make an error that can't come, as a script has few enough blocks and nodes.
         put_count(page, i as u8, block.middles.len() as u16)?;
     }
     Ok(())

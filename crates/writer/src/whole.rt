@@ -17,6 +17,7 @@ use script::store::Script;
 fn put_text(page: &mut Page, script: &Script) -> Result<(), CapacityError>
     ensures { Wrote result page.old.items (text_of (program_of script.now)) page.new.items }
 {
+    // `as`: a try_from would make an error that can't come, as a script has few enough blocks.
     put_header(page, script.block_count() as u8)?;
     put_counts(page, script)?;
     put_bodies(page, script)

@@ -15,4 +15,3 @@ returns-in_err-put_block c =
     let b = c.in-Some.block in
     left_full c.loop-block.invariant c.from_residual.result (middles_text b.middles.now [] ++ (last_text b.last ++ 10 ∷ [])) (bodies_text (blocks_left c.next.new.self) []) _ c.from_residual.ensures.0
     (bodies_first (blocks_left c.loop-block.block-iterator) (b.middles.now, b.last) (blocks_left c.next.new.self) c.in-Some.ensures.steps) c.in_err-put_block.ensures
-

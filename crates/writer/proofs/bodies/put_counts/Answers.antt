@@ -35,4 +35,3 @@ returns-in_err-put_count c =
     (counts_text (enumerate_count c.next.new.self) (counts (blocks_left (enumerate_source c.next.new.self))) []) _ c.from_residual.ensures.0
     (counts_first (enumerate_count c.loop-i.i-iterator) c.in-Some.i (enumerate_count c.next.new.self) (blocks_left (enumerate_source c.loop-i.i-iterator)) (c.in-Some.block.middles.now, c.in-Some.block.last) _ step.0 step.1 step.2)
     c.in_err-put_count.ensures
-

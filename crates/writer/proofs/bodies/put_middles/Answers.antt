@@ -9,4 +9,3 @@ returns-in_err-put_middle c =
     let m = c.node-item.result in
     left_full c.loop-node.invariant c.from_residual.result (middle_text m ++ 10 ∷ []) (middles_text (drop (c.loop-node.node-index + 1) c.args.nodes.now) []) _ c.from_residual.ensures.0
     (middles_step c.args.nodes.now c.loop-node.node-index m c.loop-node-test.true c.node-item.is) c.in_err-put_middle.ensures
-
