@@ -1,5 +1,5 @@
 -- Writing a whole that falls into pieces, one after another.
-use Rattle.std.proofs.Common.{◌≡◌, ℕ, ◌+◌, ◌<◌, List, [], ◌∷◌, ◌++◌, length, ℤ, Ok, Err, Result, sym, refl, ap, ◌∙◌, append_assoc, append-nil, true≢false, arith, length-append}
+use Rattle.std.proofs.Common.{◌≡◌, ℕ, ◌+◌, ◌<◌, List, [], ◌∷◌, ◌++◌, length, ℤ, Ok, Err, Result, sym, refl, ap, ◌∙◌, append_assoc, append-nil, arith, length-append}
 use Rattle.std.specs.Result.{IsErr}
 use mathlib.Core.Logic.{◌⊎◌, inl, inr}
 use Rattle.words.specs.declared.kind.Kind.{Kind}
@@ -22,7 +22,7 @@ module _ {old whole now left : List ℕ} (s : Left old whole now left) where
 
   -- a piece did not fit, so the whole does not
   pub left_full : {A E : Type 0} (r : Result A E) (piece rest next : List ℕ) → IsErr r → left ≡ piece ++ rest → most_bytes < length now + length piece → Wrote r old whole next
-  left_full (Ok done) piece rest next x e w = absurd (true≢false (sym x))
+  left_full (Ok done) piece rest next x e w = absurd (cc)
   left_full (Err full) piece rest next x e w =
       omega (arith, w, ap length s.splits, ap length e, length-append now left, length-append old whole, length-append piece rest)
 
@@ -39,5 +39,5 @@ module _ {old whole now left : List ℕ} (s : Left old whole now left) where
 pub spaced_end : (ks : List Kind) (vs : List ℤ) → (ks ≡ []) ⊎ (vs ≡ []) → spaced ks vs ≡ []
 spaced_end [] vs e = refl
 spaced_end (k ∷ ks) [] e = refl
-spaced_end (k ∷ ks) (v ∷ vs) (inl e) = absurd (omega (arith, ap length e))
-spaced_end (k ∷ ks) (v ∷ vs) (inr e) = absurd (omega (arith, ap length e))
+spaced_end (k ∷ ks) (v ∷ vs) (inl e) = absurd (cc)
+spaced_end (k ∷ ks) (v ∷ vs) (inr e) = absurd (cc)

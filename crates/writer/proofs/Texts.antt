@@ -5,6 +5,7 @@ use Rattle.script.specs.declared.node.Middle.{Middle}
 use Rattle.script.specs.Run.{Block, Program}
 use Rattle.script.specs.declared.blocks.Blocks.{Blocks}
 use Rattle.script.specs.Model.{blocks_from}
+use Rattle.writer.proofs.Puts.{Left, left_start, left_more}
 use Rattle.writer.specs.Text.{middle_text, last_text, line, count_text, counts_text, middles_text, bodies_text, counts, header_text, text}
 
 line_splits : (l rest : List ℕ) → line l rest ≡ (l ++ 10 ∷ []) ++ rest
@@ -41,6 +42,11 @@ bodies_first p b rest e =
     ∙ ap (λ r. middles_text b.0 [] ++ r) (line_splits (last_text b.1) (bodies_text rest []))
     ∙ sym (append_assoc (middles_text b.0 []) (last_text b.1 ++ 10 ∷ []) (bodies_text rest []))
 
-pub text_splits : (p : Program) (n : ℕ) → n ≡ length p → text p ≡ (header_text n ++ 10 ∷ []) ++ (counts_text 0 (counts p) [] ++ bodies_text p [])
+text_splits : (p : Program) (n : ℕ) → n ≡ length p → text p ≡ (header_text n ++ 10 ∷ []) ++ (counts_text 0 (counts p) [] ++ bodies_text p [])
 text_splits p n e =
     line_splits (header_text (length p)) (counts_text 0 (counts p) (bodies_text p [])) ∙ (λ i. (header_text (sym e i) ++ 10 ∷ []) ++ counts_then (counts p) 0 (bodies_text p []) i)
+
+-- the first line is written
+pub header_put : (p : Program) (n : ℕ) (old now : List ℕ) → n ≡ length p → now ≡ old ++ (header_text n ++ 10 ∷ []) → Left old (text p) now (counts_text 0 (counts p) [] ++ bodies_text p [])
+header_put p n old now e w =
+    left_more (left_start old (text p) _ (sym (text_splits p n e))) (header_text n ++ 10 ∷ []) (counts_text 0 (counts p) [] ++ bodies_text p []) now refl w
