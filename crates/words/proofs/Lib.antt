@@ -2,5 +2,4 @@ pub mod Cuts
 pub mod Digits
 pub mod Rows
 pub mod Spelt
-pub mod Steps
 pub mod Values

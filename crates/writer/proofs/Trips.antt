@@ -21,11 +21,11 @@ use Rattle.writer.proofs.Nodes.{WrittenAs, Header as SaidHeader, Line, middle_ea
 
 then_is : {A B : Type 0} (r : Result A Fault) (f : A → Result B Fault) (y : B) → then r f ≡ Ok y → (x : A) × (r ≡ Ok x) × (f x ≡ Ok y)
 then_is (Ok a) f y e = (a, refl, e)
-then_is (Err x) f y e = absurd (let z : ◌≡◌ {A = ℕ} 0 1 = cc in omega arith)
+then_is (Err x) f y e = absurd (cc)
 
 cond_is : {B : Type 0} (t : Bool) (r : Result B Fault) (x : Fault) (y : B) → cond t r (Err x) ≡ Ok y → r ≡ Ok y
 cond_is true r x y e = e
-cond_is false r x y e = absurd (let z : ◌≡◌ {A = ℕ} 0 1 = cc in omega arith)
+cond_is false r x y e = absurd (cc)
 
 -- ---- what is read is what is written
 
@@ -93,7 +93,7 @@ module _ (n : ℕ) (b : n ≤ most_blocks) where
 
 end_is : (l : List ℕ) (c : Cursor) (p q : Program) → finished l c p ≡ Ok q → (l ≡ []) × (p ≡ q)
 end_is [] c p q e = (refl, cc)
-end_is (x ∷ xs) c p q e = absurd (let z : ◌≡◌ {A = ℕ} 0 1 = cc in omega arith)
+end_is (x ∷ xs) c p q e = absurd (cc)
 
 counts_total : (p : Program) → total (counts p) ≡ middle_count p
 counts_total [] = refl

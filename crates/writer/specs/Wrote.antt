@@ -1,8 +1,9 @@
 -- Writing a text piece by piece.
-use Rattle.std.specs.Prelude.{◌≡◌, ℕ, ◌+◌, ◌<◌, ◌≤◌, List, ◌++◌, length, take, Some, None, Option}
+use Rattle.std.specs.Prelude.{◌≡◌, ◌+◌, ◌<◌, List, ◌++◌, length, Ok, Err, Result, ℕ}
+use Rattle.script.specs.Limits.{most_bytes}
 
--- Wrote r old at piece new: after what stood before `at`, new has the piece, which ends at r; or it has no room there.
--- What stands past the end of the piece is open.
-abbrev pub Wrote : Option ℕ → List ℕ → ℕ → List ℕ → List ℕ → Type 0
-Wrote (Some end) old at piece new = (end ≡ at + length piece) × (end ≤ length old) × (take end new ≡ take at old ++ piece)
-Wrote None old at piece new = length old < at + length piece
+-- Wrote r old piece new: the page had old, and new is old and then the piece; or r is an error, since there is no room for
+-- the piece. What new is then is open.
+abbrev pub Wrote : {A E : Type 0} → Result A E → List ℕ → List ℕ → List ℕ → Type 0
+Wrote (Ok done) old piece new = new ≡ old ++ piece
+Wrote (Err full) old piece new = most_bytes < length old + length piece

@@ -1,140 +1,94 @@
-// Puts whole lines into a page.
-ghost use Rattle.std.specs.Prelude.{◌≡◌, ◌≤◌, [], ◌∷◌, ◌++◌, length};
-ghost use Rattle.words.specs.Forms.{compute_row, row_text};
+// Puts whole lines onto a page.
+ghost use Rattle.std.specs.Prelude.{[], ◌∷◌, ◌++◌};
 ghost use Rattle.words.specs.Table.{name_of, kinds_of};
 ghost use Rattle.words.specs.Words.{spaced};
 ghost use Rattle.writer.specs.Text.{header_text, count_text, middle_text, last_text};
 ghost use Rattle.writer.specs.Wrote.{Wrote};
 
-use super::put::{put_byte, put_bytes, put_lettered, put_operands};
-use script::node::{Last, Middle, Operation};
+use super::put::{Page, put_lettered, put_operands};
+use arrayvec::CapacityError;
+use script::node::{Last, Middle};
 use words::kind::Kind;
 use words::table::{kinds, name};
 use words::verb::Verb;
 
-const BLOCKS: &[u8] = b"blocks";
-
 // The words after the first, and the line feed.
-fn put_rest(out: &mut [u8], at: usize, kinds: &[Kind], values: &[i32]) -> Option<usize>
-    requires inside { at ≤ length out.old }
-    requires many { length kinds.now ≡ length values.now }
-    ensures { Wrote result out.old at (spaced kinds.now values.now ++ 10 ∷ []) out.new }
+fn put_rest(page: &mut Page, kinds: &[Kind], values: &[i32]) -> Result<(), CapacityError>
+    ensures { Wrote result page.old.items (spaced kinds.now values.now ++ 10 ∷ []) page.new.items }
 {
-    match put_operands(out, at, kinds, values) {
-        Some(next) => match put_byte(out, next, b'\n') {
-            Some(end) => Some(end),
-            None => None,
-        },
-        None => None,
-    }
+    put_operands(page, kinds, values)?;
+    page.try_extend_from_slice(b"\n")
 }
 
 // `blocks N`
-pub(crate) fn put_header(out: &mut [u8], at: usize, n: u8) -> Option<usize>
-    requires { at ≤ length out.old }
-    ensures { Wrote result out.old at (header_text n ++ 10 ∷ []) out.new }
+pub(crate) fn put_header(page: &mut Page, n: u8) -> Result<(), CapacityError>
+    ensures { Wrote result page.old.items (header_text n ++ 10 ∷ []) page.new.items }
 {
-    match put_bytes(out, at, BLOCKS) {
-        Some(next) => match put_rest(out, next, &[Kind::SizeWord], &[n as i32]) {
-            Some(end) => Some(end),
-            None => None,
-        },
-        None => None,
-    }
+    page.try_extend_from_slice(b"blocks")?;
+    put_rest(page, &[Kind::SizeWord], &[i32::from(n)])
 }
 
 // `bI C`
-pub(crate) fn put_count(out: &mut [u8], at: usize, i: u8, count: u16) -> Option<usize>
-    requires { at ≤ length out.old }
-    ensures { Wrote result out.old at (count_text i count ++ 10 ∷ []) out.new }
+pub(crate) fn put_count(page: &mut Page, i: u8, count: u16) -> Result<(), CapacityError>
+    ensures { Wrote result page.old.items (count_text i count ++ 10 ∷ []) page.new.items }
 {
-    match put_lettered(out, at, b'b', i as i32) {
-        Some(next) => match put_rest(out, next, &[Kind::CountWord], &[count as i32]) {
-            Some(end) => Some(end),
-            None => None,
-        },
-        None => None,
-    }
+    put_lettered(page, b'b', i32::from(i))?;
+    put_rest(page, &[Kind::CountWord], &[i32::from(count)])
 }
 
 // The line of a node with these operands.
-fn put_node(out: &mut [u8], at: usize, verb: Verb, values: &[i32]) -> Option<usize>
-    requires inside { at ≤ length out.old }
-    requires many { length (kinds_of verb) ≡ length values.now }
-    ensures { Wrote result out.old at (name_of verb ++ (spaced (kinds_of verb) values.now ++ 10 ∷ [])) out.new }
+fn put_node(page: &mut Page, verb: Verb, values: &[i32]) -> Result<(), CapacityError>
+    ensures { Wrote result page.old.items (name_of verb ++ (spaced (kinds_of verb) values.now ++ 10 ∷ [])) page.new.items }
 {
-    match put_bytes(out, at, name(verb)) {
-        Some(next) => match put_rest(out, next, kinds(verb), values) {
-            Some(end) => Some(end),
-            None => None,
-        },
-        None => None,
-    }
-}
-
-fn put_compute(out: &mut [u8], at: usize, operation: Operation, values: &[i32]) -> Option<usize>
-    requires inside { at ≤ length out.old }
-    requires three { length values.now ≡ 3 }
-    ensures { Wrote result out.old at (row_text (compute_row operation) values.now ++ 10 ∷ []) out.new }
-{
-    match operation {
-        Operation::Add => put_node(out, at, Verb::Add, values),
-        Operation::Sub => put_node(out, at, Verb::Sub, values),
-        Operation::Mul => put_node(out, at, Verb::Mul, values),
-        Operation::Div => put_node(out, at, Verb::Div, values),
-        Operation::Rem => put_node(out, at, Verb::Rem, values),
-        Operation::Lt => put_node(out, at, Verb::Lt, values),
-        Operation::Eq => put_node(out, at, Verb::Eq, values),
-    }
+    page.try_extend_from_slice(name(verb))?;
+    put_rest(page, kinds(verb), values)
 }
 
 // The line of a middle node.
-pub(crate) fn put_middle(out: &mut [u8], at: usize, node: Middle) -> Option<usize>
-    requires { at ≤ length out.old }
-    ensures { Wrote result out.old at (middle_text node ++ 10 ∷ []) out.new }
+pub(crate) fn put_middle(page: &mut Page, node: Middle) -> Result<(), CapacityError>
+    ensures { Wrote result page.old.items (middle_text node ++ 10 ∷ []) page.new.items }
 {
     match node {
-        Middle::Set { to, value } => put_node(out, at, Verb::Set, &[to.index as i32, value]),
+        Middle::Set { to, value } => put_node(page, Verb::Set, &[i32::from(to.index), value]),
         Middle::Mov { to, from } => put_node(
-            out,
-            at,
+            page,
             Verb::Mov,
-            &[to.index as i32, from.index as i32],
+            &[i32::from(to.index), i32::from(from.index)],
         ),
         Middle::Compute {
             operation,
             to,
             left,
             right,
-        } => put_compute(
-            out,
-            at,
-            operation,
-            &[to.index as i32, left.index as i32, right.index as i32],
+        } => put_node(
+            page,
+            Verb::from(operation),
+            &[
+                i32::from(to.index),
+                i32::from(left.index),
+                i32::from(right.index),
+            ],
         ),
         Middle::Get { to, slot } => put_node(
-            out,
-            at,
+            page,
             Verb::Get,
-            &[to.index as i32, slot.index as i32],
+            &[i32::from(to.index), i32::from(slot.index)],
         ),
-        Middle::Put { from } => put_node(out, at, Verb::Put, &[from.index as i32]),
+        Middle::Put { from } => put_node(page, Verb::Put, &[i32::from(from.index)]),
     }
 }
 
 // The line of a last node.
-pub(crate) fn put_last(out: &mut [u8], at: usize, node: Last) -> Option<usize>
-    requires { at ≤ length out.old }
-    ensures { Wrote result out.old at (last_text node ++ 10 ∷ []) out.new }
+pub(crate) fn put_last(page: &mut Page, node: Last) -> Result<(), CapacityError>
+    ensures { Wrote result page.old.items (last_text node ++ 10 ∷ []) page.new.items }
 {
     match node {
-        Last::Go { target } => put_node(out, at, Verb::Go, &[target as i32]),
+        Last::Go { target } => put_node(page, Verb::Go, &[i32::from(target)]),
         Last::If { test, then, other } => put_node(
-            out,
-            at,
+            page,
             Verb::If,
-            &[test.index as i32, then as i32, other as i32],
+            &[i32::from(test.index), i32::from(then), i32::from(other)],
         ),
-        Last::End { from } => put_node(out, at, Verb::End, &[from.index as i32]),
+        Last::End { from } => put_node(page, Verb::End, &[i32::from(from.index)]),
     }
 }

@@ -1,5 +1,5 @@
 // Writes a whole text.
-ghost use Rattle.std.specs.Prelude.{◌≡◌, ℕ, ◌≤◌, List, length, Ok, Err};
+ghost use Rattle.std.specs.Prelude.{◌≡◌, ℕ, ◌≤◌, List, length, Ok};
 ghost use Rattle.reader.specs.Read.{read};
 ghost use Rattle.script.specs.Limits.{most_bytes};
 ghost use Rattle.script.specs.Model.{program_of};
@@ -9,42 +9,30 @@ ghost use Rattle.writer.specs.Wrote.{Wrote};
 
 use super::bodies::{put_bodies, put_counts};
 use super::line::put_header;
-use script::limits::MOST_BYTES;
+use super::put::Page;
+use arrayvec::CapacityError;
 use script::store::Script;
 
-// The whole text, from the beginning of the page on.
-fn put_text(out: &mut [u8], script: &Script) -> Option<usize>
-    ensures { Wrote result out.old 0 (text_of (program_of script.now)) out.new }
+// The whole text, after what stands on the page.
+fn put_text(page: &mut Page, script: &Script) -> Result<(), CapacityError>
+    ensures { Wrote result page.old.items (text_of (program_of script.now)) page.new.items }
 {
-    match put_header(out, 0, script.block_count() as u8) {
-        Some(first) => match put_counts(out, first, script) {
-            Some(second) => match put_bodies(out, second, script) {
-                Some(end) => Some(end),
-                None => None,
-            },
-            None => None,
-        },
-        None => None,
-    }
+    // `as`: a try_from would make an error that can't come, as a script has few enough blocks.
+    put_header(page, script.block_count() as u8)?;
+    put_counts(page, script)?;
+    put_bodies(page, script)
 }
 
-// Writes the text by way of a page that every text fits into.
-fn write_page(script: &Script, out: &mut [u8]) -> Option<usize>
-    ensures { Writes result (text_of (program_of script.now)) out.old out.new }
+// Copies a text to the beginning of lent bytes and answers its length, or leaves them all as they were where it does not fit.
+fn copy_out(text: &[u8], out: &mut [u8]) -> Option<usize>
+    ensures { Writes result text.now out.old out.new }
 {
-    script.numbers_fit();
-    let mut page = [0; MOST_BYTES];
-    match put_text(&mut page, script) {
-        Some(end) => {
-            if out.len() < end {
-                None
-            } else {
-                out[..end].copy_from_slice(&page[..end]);
-                Some(end)
-            }
-        }
-        None => unreachable(),
+    // Not by `get_mut(..)?`: once its borrow is over, no clause says what the other bytes are, and the proof needs that.
+    if out.len() < text.len() {
+        return None;
     }
+    out[..text.len()].copy_from_slice(text);
+    Some(text.len())
 }
 
 // Writes a script's text and answers its length, or leaves all bytes as they were where it does not fit.
@@ -55,5 +43,9 @@ pub fn write(script: &Script, out: &mut [u8]) -> Option<usize>
     ensures same { (t : List ℕ) → read t ≡ Ok (program_of script.now) → text_of (program_of script.now) ≡ t }
 {
     script.numbers_fit();
-    write_page(script, out)
+    let mut page = Page::new();
+    let Ok(()) = put_text(&mut page, script) else {
+        unreachable()
+    };
+    copy_out(&page, out)
 }

@@ -1,44 +1,34 @@
-use Rattle.std.proofs.Common.{◌+◌, [], ◌∷◌, ◌++◌, length, drop, vec_items, arith}
-use Rattle.script.specs.Model.{program_of}
-use Rattle.script.specs.Run.{Block}
-use Rattle.script.proofs.Stored.{blocks_many, middles_counted}
+use Rattle.std.proofs.Common.{◌≡◌, [], ◌∷◌, ◌++◌, length, ap, ◌∙◌, arith}
+use Rattle.std.specs.Iterator.Adapters.{enumerate_source, enumerate_count}
+use mathlib.Core.Logic.{inl}
+use Rattle.script.specs.Model.{program_of, middle_count}
 use Rattle.writer.specs.Text.{count_text, counts_text, counts}
-use Rattle.writer.proofs.Puts.{sofar_more, sofar_none, sofar_all}
-use Rattle.writer.proofs.Texts.{found_some, found_small, counts_step, counts_end}
+use Rattle.writer.proofs.Formed.{few_blocks, few_middles}
+use Rattle.writer.proofs.Puts.{left_full}
+use Rattle.writer.proofs.Texts.{blocks_left, counts_first}
 use Rattle.writer.proofs.bodies.put_counts.Goals as goal
 
-pub unreachable-requires : goal.unreachable-requires
-unreachable-requires c =
-    found_some (program_of c.args.script.now) c.loop-i.i (omega (arith, c.loop-i-test.true, c.block_count-i-end.ensures)) c.in_default.ensures
+pub loop-i-init-derived : goal.loop-i-init-derived
+loop-i-init-derived c =
+    let it = c.into_iter-i-iterator.ensures.into_iter_gives in
+    let none : enumerate_count c.into_iter-i-iterator.result ≡ 0 = ap enumerate_count it ∙ c.enumerate-i-items.ensures.count in
+    let all : blocks_left (enumerate_source c.into_iter-i-iterator.result) ≡ program_of c.args.script.now =
+    ap (λ e. blocks_left (enumerate_source e)) it ∙ ap blocks_left c.enumerate-i-items.ensures.source ∙ c.blocks-2.ensures in
+    ((tt, tt, inl (omega (arith, none, ap length all, few_blocks c.args.script.now))), tt)
 
 pub overflow_cast-i : goal.overflow_cast-i
 overflow_cast-i c =
-    let s = c.args.script.now in
-    record { fits = omega (arith, c.loop-i-test.true, c.block_count-i-end.ensures, blocks_many (vec_items s.middles) 0 (vec_items s.blocks), s.few) }
+    let step = c.in-Some.ensures.steps in
+    record { fits = omega (arith, step.1, ap length step.0, c.loop-i.invariant.1, few_blocks c.args.script.now) }
 
 pub overflow_cast-block : goal.overflow_cast-block
 overflow_cast-block c =
-    let s = c.args.script.now in
-    let small = found_small (program_of s) c.loop-i.i (c.in-Some.block.middles.now, c.in-Some.block.last) c.in-Some.ensures in
-    record { fits = omega (arith, small, middles_counted (vec_items s.middles) (vec_items s.blocks) s.ends, s.small) }
+    record { fits = omega (arith, ap middle_count c.in-Some.ensures.steps.0, c.loop-i.invariant.2, few_middles c.args.script.now) }
 
-pub returns-in-None : goal.returns-in-None
-returns-in-None c =
-    let i = c.loop-i.i in
-    let p = program_of c.args.script.now in
-    let b : Block = (c.in-Some.block.middles.now, c.in-Some.block.last) in
-    sofar_none _ _ c.loop-i.out c.loop-i.end _ _ (count_text i (length b.0) ++ 10 ∷ []) (counts_text (i + 1) (drop (i + 1) (counts p)) []) c.put_count.new.out
-    c.loop-i.invariant c.loop-i.auto.out (counts_step p i b c.in-Some.ensures) c.in-None.ensures
-
-pub loop-i-preserved : goal.loop-i-preserved
-loop-i-preserved c =
-    let i = c.loop-i.i in
-    let p = program_of c.args.script.now in
-    let b : Block = (c.in-Some.block.middles.now, c.in-Some.block.last) in
-    sofar_more _ _ c.loop-i.out c.loop-i.end _ _ (count_text i (length b.0) ++ 10 ∷ []) (counts_text (i + 1) (drop (i + 1) (counts p)) []) c.put_count.new.out c.in-Some-put_count.next
-    c.loop-i.invariant c.loop-i.auto.out (counts_step p i b c.in-Some.ensures) c.in-Some-put_count.ensures
-
-pub returns : goal.returns
-returns c =
-    let p = program_of c.args.script.now in
-    sofar_all _ _ _ _ _ _ c.loop-i.invariant (counts_end p c.loop-i.i (omega (arith, c.loop-i-test.false, c.block_count-i-end.ensures)))
+pub returns-in_err-put_count : goal.returns-in_err-put_count
+returns-in_err-put_count c =
+    let step = c.in-Some.ensures.steps in
+    left_full c.loop-i.invariant.0 c.from_residual.result (count_text c.in-Some.i (length c.in-Some.block.middles.now) ++ 10 ∷ [])
+    (counts_text (enumerate_count c.next.new.self) (counts (blocks_left (enumerate_source c.next.new.self))) []) _ c.from_residual.ensures.0
+    (counts_first (enumerate_count c.loop-i.i-iterator) c.in-Some.i (enumerate_count c.next.new.self) (blocks_left (enumerate_source c.loop-i.i-iterator)) (c.in-Some.block.middles.now, c.in-Some.block.last) _ step.0 step.1 step.2)
+    c.in_err-put_count.ensures
