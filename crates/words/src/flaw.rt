@@ -1,5 +1,5 @@
 // What is wrong with the words of a line.
-#[derive(Clone, Copy)]
+#[derive(Clone, Copy, Debug, PartialEq, Eq)]
 pub enum Flaw {
     // they have not the form that is due
     Form,

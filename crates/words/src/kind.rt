@@ -1,5 +1,5 @@
 // The kinds of words that stand for a number.
-#[derive(Clone, Copy)]
+#[derive(Clone, Copy, Debug, PartialEq, Eq)]
 pub enum Kind {
     // the letter r and a number below 16
     RegisterWord,
