@@ -2,7 +2,7 @@
 ghost use Rattle.std.specs.Prelude.{◌≡◌};
 ghost use Rattle.shorten.specs.Sources.{source_of, name_of};
 
-use anyhow::anyhow;
+use anyhow::ensure;
 use std::env;
 
 // Where the text comes from.
@@ -48,9 +48,7 @@ impl Arguments {
         let _ = words.next();
         let input = Source::named(words.next());
         let output = words.next();
-        if words.next().is_some() {
-            return Err(anyhow!("usage: shorten [IN [OUT]]"));
-        }
+        ensure!(words.next().is_none(), "usage: shorten [IN [OUT]]");
         Ok(Arguments { input, output })
     }
 }
