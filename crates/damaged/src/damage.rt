@@ -9,7 +9,7 @@ use std::alloc::{AllocError, Global};
 use std::process::Abort;
 use std::test::Fail;
 
-// The fault that a text must have.
+// The fault that a text must have. A number by a rule of the project: docs/TEXT.md knows a fault by it.
 #[derive(Clone, Copy, Debug, PartialEq, Eq)]
 pub struct Wanted {
     pub number: u8,

@@ -65,7 +65,7 @@ pub struct Fault {
 }
 
 impl Fault {
-    // The number of the fault, from 3 to 7.
+    // The number of the fault, from 3 to 7. A number by a rule of the project: people and the pages know a fault by it.
     pub fn number(&self) -> u8
         ensures { result ≡ number_of self.now.question }
     {
