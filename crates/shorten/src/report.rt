@@ -2,7 +2,7 @@
 use script::store::Script;
 use std::fmt;
 
-// A script, with the text that was read and the text that is written.
+// A script, with the text that was read and the text that is written. The name is lent for longer than they are.
 #[derive(Clone, Copy)]
 pub struct Report<'n, 'a> {
     // what the text that was read is called
