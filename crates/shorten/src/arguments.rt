@@ -13,7 +13,8 @@ pub enum Source {
 }
 
 impl Source {
-    // The source that a word names: none or `-` is standard input.
+    // The source that a word names: none or `-` is standard input. As a `From` it would be no plainer: `from` says of no
+    // word what it means.
     fn named(word: Option<String>) -> Source
         ensures { result ≡ source_of word }
     {
@@ -23,7 +24,7 @@ impl Source {
         }
     }
 
-    // What the text is called.
+    // What the text is called. As a `Display` it would be no plainer: a notice lends the name.
     pub fn name(&self) -> &str
         ensures { result.now ≡ name_of self.now }
     {
