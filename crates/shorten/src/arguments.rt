@@ -13,8 +13,8 @@ pub enum Source {
 }
 
 impl Source {
-    // The source that a word names: none or `-` is standard input. As a `From` it would be no plainer: `from` says of no
-    // word what it means.
+    // The source that a word names: none or `-` is standard input. A `From` would be no plainer: it would not say that
+    // a word which is missing names a source too.
     fn named(word: Option<String>) -> Source
         ensures { result ≡ source_of word }
     {
