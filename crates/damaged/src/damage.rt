@@ -2,20 +2,31 @@
 use super::good::{SETTLE, is_written_as, script_of};
 use super::shorthand::spelt;
 use super::{contents, feeds, headers, lasts, middles, totals};
-use reader::fault::Layer;
+use reader::fault::{Fault, Layer};
 use reader::read;
 use script::store::Script;
 use std::alloc::{AllocError, Global};
 use std::process::Abort;
 use std::test::Fail;
 
-// The fault that a text must have.
-#[derive(Clone, Copy)]
+// The fault that a text must have. A number by a rule of the project: docs/TEXT.md knows a fault by it.
+#[derive(Clone, Copy, Debug, PartialEq, Eq)]
 pub struct Wanted {
     pub number: u8,
     pub layer: Layer,
     pub line: usize,
     pub place: usize,
+}
+
+impl From<Fault> for Wanted {
+    fn from(fault: Fault) -> Wanted {
+        Wanted {
+            number: fault.number(),
+            layer: fault.layer(),
+            line: fault.line,
+            place: fault.place,
+        }
+    }
 }
 
 // Lines that give the same fault in the same text.
@@ -31,15 +42,11 @@ pub struct Damage {
 
 // That the text of a line has a fault, and just this one.
 fn has_fault(rt: &impl Abort, line: &str, text: &[u8], script: &mut Script, wanted: Wanted) {
-    match read(text, script) {
-        Ok(()) => panic!(rt; "{line}: it was read"),
-        Err(fault) => {
-            assert_eq!(rt; fault.number(), wanted.number, "{line}");
-            assert!(rt; fault.layer() == wanted.layer, "{line}");
-            assert_eq!(rt; fault.line, wanted.line, "{line}");
-            assert_eq!(rt; fault.place, wanted.place, "{line}");
-        }
-    }
+    assert_eq!(rt;
+        read(text, script).map_err(Wanted::from),
+        Err(wanted),
+        "{line}"
+    );
 }
 
 // The text of a row that has this line.

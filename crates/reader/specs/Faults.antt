@@ -1,5 +1,9 @@
 -- The number and the layer of each question that a text can fail.
-use Rattle.std.specs.Prelude.{ℕ}
+--
+--   number_of q     the number of the question q
+--   layer_of q      the layer that puts it
+--   layer_name l    the name of a layer
+use Rattle.std.specs.Prelude.{ℕ, List, codes}
 use Rattle.words.specs.declared.flaw.Flaw.TheVariants.{Form, Range}
 use Rattle.reader.specs.declared.fault.Layer.{Layer}
 use Rattle.reader.specs.declared.fault.Layer.TheVariants.{Line, Word, Contents}
@@ -18,3 +22,8 @@ layer_of Feed = Line
 layer_of (Words flaw) = Word
 layer_of Total = Contents
 layer_of Finish = Contents
+
+abbrev pub layer_name : Layer → List ℕ
+layer_name Line = codes "line"
+layer_name Word = codes "word"
+layer_name Contents = codes "contents"

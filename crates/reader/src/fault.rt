@@ -1,11 +1,12 @@
 // What is wrong with a text: the first question that was answered No, and where.
-ghost use Rattle.std.specs.Prelude.{◌≡◌};
-ghost use Rattle.reader.specs.Faults.{number_of, layer_of};
+ghost use Rattle.std.specs.Prelude.{◌≡◌, Some};
+ghost use Rattle.reader.specs.Faults.{number_of, layer_of, layer_name};
 
+use std::fmt;
 use words::flaw::Flaw;
 
 // The questions that are put to a text.
-#[derive(Clone, Copy)]
+#[derive(Clone, Copy, Debug, PartialEq, Eq)]
 pub enum Question {
     // Does the line end with a line feed?
     Feed,
@@ -18,15 +19,27 @@ pub enum Question {
 }
 
 // The layer that puts a question.
-#[derive(Clone, Copy, PartialEq, Eq)]
+#[derive(Clone, Copy, Debug, PartialEq, Eq)]
 pub enum Layer {
     Line,
     Word,
     Contents,
 }
 
+impl fmt::Display for Layer {
+    ghost output = { λ l. Some (layer_name l) };
+
+    fn fmt<W: fmt::Write>(&self, f: &mut fmt::Formatter<W>) -> fmt::Result {
+        f.write_str(match self {
+            Layer::Line => "line",
+            Layer::Word => "word",
+            Layer::Contents => "contents",
+        })
+    }
+}
+
 // The line that was due where a question was put.
-#[derive(Clone, Copy)]
+#[derive(Clone, Copy, Debug, PartialEq, Eq)]
 pub enum Due {
     // `blocks N`
     Header,
@@ -40,7 +53,7 @@ pub enum Due {
     Nothing,
 }
 
-#[derive(Clone, Copy)]
+#[derive(Clone, Copy, Debug, PartialEq, Eq)]
 pub struct Fault {
     pub question: Question,
     // what was expected
@@ -52,7 +65,7 @@ pub struct Fault {
 }
 
 impl Fault {
-    // The number of the fault, from 3 to 7.
+    // The number of the fault, from 3 to 7. A number by a rule of the project: people and the pages know a fault by it.
     pub fn number(&self) -> u8
         ensures { result ≡ number_of self.now.question }
     {

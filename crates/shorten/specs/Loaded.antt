@@ -1,5 +1,6 @@
 -- What becomes of a text that comes in.
 --
+--   IsOther s          the program stopped for want of memory, or where a line could not be printed
 --   Turned name t n    the notice n tells why the text t, which has this name, is turned away
 --   Loaded name t r    r has the script of the text t, or tells why there is none
 use Rattle.std.specs.Prelude.{◌≡◌, ℕ, ◌<◌, ◌≤◌, List, length, Ok, Err, Result}
@@ -12,6 +13,11 @@ use Rattle.tell.specs.Notices.{line_of, told, told_long}
 use Rattle.tell.specs.declared.notice.Notice.{Notice}
 use Rattle.shorten.specs.declared.stop.Stop.{Stop}
 use Rattle.shorten.specs.declared.stop.Stop.TheVariants.{Unread, File, Other}
+
+abbrev pub IsOther : Stop → Type 0
+IsOther (Unread n) = ⊥
+IsOther (File n e) = ⊥
+IsOther (Other e) = Unit {0}
 
 -- it is too long to be read, or it was read and has a fault
 abbrev pub Turned : List ℕ → List ℕ → Notice → Type 0

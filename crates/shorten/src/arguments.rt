@@ -2,7 +2,7 @@
 ghost use Rattle.std.specs.Prelude.{◌≡◌};
 ghost use Rattle.shorten.specs.Sources.{source_of, name_of};
 
-use anyhow::anyhow;
+use anyhow::ensure;
 use std::env;
 
 // Where the text comes from.
@@ -13,7 +13,8 @@ pub enum Source {
 }
 
 impl Source {
-    // The source that a word names: none or `-` is standard input.
+    // The source that a word names: none or `-` is standard input. A `From` would be no plainer: it would not say that
+    // a word which is missing names a source too.
     fn named(word: Option<String>) -> Source
         ensures { result ≡ source_of word }
     {
@@ -23,7 +24,7 @@ impl Source {
         }
     }
 
-    // What the text is called.
+    // What the text is called. As a `Display` it would be no plainer: a notice lends the name.
     pub fn name(&self) -> &str
         ensures { result.now ≡ name_of self.now }
     {
@@ -48,9 +49,7 @@ impl Arguments {
         let _ = words.next();
         let input = Source::named(words.next());
         let output = words.next();
-        if words.next().is_some() {
-            return Err(anyhow!("usage: shorten [IN [OUT]]"));
-        }
+        ensure!(words.next().is_none(), "usage: shorten [IN [OUT]]");
         Ok(Arguments { input, output })
     }
 }

@@ -12,7 +12,7 @@ mod stop;
 mod text;
 
 use arguments::Arguments;
-use report::report;
+use report::Report;
 use script::limits::MOST_BYTES;
 use std::process::ExitCode;
 use stop::Stop;
@@ -24,7 +24,13 @@ fn shorten<'a>(rt: &HostRuntime, arguments: &'a Arguments) -> Result<(), Stop<'a
     let script = text::script(rt.alloc(), name, text.as_slice())?;
     let mut memory = [0; MOST_BYTES];
     let written = text::written(&script, &mut memory);
-    report(rt, name, text.as_slice(), &script, written)?;
+    let report = Report {
+        name,
+        read: text.as_slice(),
+        script: &script,
+        written,
+    };
+    println!(rt; "{report}")?;
     if let Some(path) = &arguments.output {
         text::save(rt, path.as_str(), written)?;
         println!(rt; "written to: {path}")?;

@@ -1,35 +1,32 @@
 // What is said of a script that was read.
 use script::store::Script;
-use std::io;
+use std::fmt;
 
-// A line for each block.
-fn blocks(rt: &HostRuntime, script: &Script) -> io::Result<()> {
-    for i in 0..script.block_count() {
-        if let Some(block) = script.block(i) {
-            let count = block.middles.len();
-            println!(rt; "middle nodes of b{i}: {count}")?;
-        }
-    }
-    Ok(())
+// A script, with the text that was read and the text that is written. The name is lent for longer than they are.
+#[derive(Clone, Copy)]
+pub struct Report<'n, 'a> {
+    // what the text that was read is called
+    pub name: &'n str,
+    pub read: &'a [u8],
+    pub script: &'a Script,
+    pub written: &'a [u8],
 }
 
 // A line for each fact, in the order in which they came about.
-pub fn report(
-    rt: &HostRuntime,
-    name: &str,
-    read: &[u8],
-    script: &Script,
-    written: &[u8],
-) -> io::Result<()> {
-    println!(rt; "script: {name}")?;
-    println!(rt; "bytes read: {}", read.len())?;
-    println!(rt; "blocks: {}", script.block_count())?;
-    println!(rt; "middle nodes: {}", script.middle_count())?;
-    blocks(rt, script)?;
-    let same = if written == read {
-        "the same as read"
-    } else {
-        "not those read"
-    };
-    println!(rt; "bytes written: {}, {same}", written.len())
+impl fmt::Display for Report<'_, '_> {
+    fn fmt<W: fmt::Write>(&self, f: &mut fmt::Formatter<W>) -> fmt::Result {
+        writeln!(f, "script: {}", self.name)?;
+        writeln!(f, "bytes read: {}", self.read.len())?;
+        writeln!(f, "blocks: {}", self.script.block_count())?;
+        writeln!(f, "middle nodes: {}", self.script.middle_count())?;
+        for (i, block) in self.script.blocks().enumerate() {
+            writeln!(f, "middle nodes of b{i}: {}", block.middles.len())?;
+        }
+        let same = if self.written == self.read {
+            "the same as read"
+        } else {
+            "not those read"
+        };
+        write!(f, "bytes written: {}, {same}", self.written.len())
+    }
 }

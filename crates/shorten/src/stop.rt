@@ -1,4 +1,6 @@
 // Why the program stopped before its end.
+ghost use Rattle.shorten.specs.Loaded.{IsOther};
+
 use std::error::Error;
 use std::{fmt, io};
 use tell::notice::Notice;
@@ -14,6 +16,8 @@ pub enum Stop<'a> {
 }
 
 impl<E: Error> From<E> for Stop<'_> {
+    ghost from_gives = { λ _ stop. IsOther stop };
+
     fn from(error: E) -> Self {
         Stop::Other(error.into())
     }

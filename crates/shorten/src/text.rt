@@ -25,13 +25,10 @@ pub fn load<'a>(rt: &HostRuntime, source: &'a Source) -> Result<Vec<u8>, Stop<'a
         Source::StandardInput => standard_input(rt),
         Source::Path(path) => fs::read(rt, path.as_str()),
     };
-    match loaded {
-        Ok(text) => Ok(text),
-        Err(error) => Err(Stop::File {
-            name: source.name(),
-            error,
-        }),
-    }
+    loaded.map_err(|error| Stop::File {
+        name: source.name(),
+        error,
+    })
 }
 
 // The script of a text that has this name. A text that is longer than any script's is not read.
@@ -41,30 +38,20 @@ pub fn script<'a>(heap: Global, name: &'a str, text: &[u8]) -> Result<Script, St
     if text.len() > MOST_BYTES {
         return Err(Stop::Unread(Notice::too_long(name)));
     }
-    let mut script = match Script::new(heap) {
-        Ok(script) => script,
-        Err(error) => return Err(Stop::Other(error.into())),
-    };
-    match reader::read(text, &mut script) {
-        Ok(()) => Ok(script),
-        Err(fault) => Err(Stop::Unread(Notice::of_fault(name, fault))),
-    }
+    let mut script = Script::new(heap)?;
+    reader::read(text, &mut script).map_err(|fault| Stop::Unread(Notice::of_fault(name, fault)))?;
+    Ok(script)
 }
 
 // The text of a script, in memory that every script's text fits into.
 pub fn written<'a>(script: &Script, memory: &'a mut [u8; MOST_BYTES]) -> &'a [u8]
     ensures { result.now ≡ text_of (program_of script.now) }
 {
-    match writer::write(script, memory) {
-        Some(length) => &memory[0..length],
-        None => unreachable(),
-    }
+    let length = writer::write(script, memory).unwrap();
+    &memory[..length]
 }
 
 // Writes a text into a file.
 pub fn save<'a>(rt: &HostRuntime, path: &'a str, text: &[u8]) -> Result<(), Stop<'a>> {
-    match fs::write(rt, path, text) {
-        Ok(()) => Ok(()),
-        Err(error) => Err(Stop::File { name: path, error }),
-    }
+    fs::write(rt, path, text).map_err(|error| Stop::File { name: path, error })
 }

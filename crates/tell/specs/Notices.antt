@@ -1,30 +1,25 @@
 -- What people are told of a fault.
 --
---   layer_name l       the name of a layer
 --   form_of d          the form that is due
 --   range_of d         the ranges of the numbers in the line that is due
 --   expected_of q d    what would have been answered Yes
 --   line n l q y e p   the line that tells of a text n: its line l, the number q of the question, the layer y that put it,
 --                      what was expected, and the place p where the line begins
---   line_of n          the line of a notice
 --   told n f           the line for the fault f of a text n
 --   told_long n        the line for a text n that is too long to be read
+--   told_by n r        the line for a text n that is turned away for the reason r
+--   line_of n          the line of a notice
 use Rattle.std.specs.Prelude.{ℕ, List, ◌++◌, codes, decimal}
 use Rattle.words.specs.declared.flaw.Flaw.TheVariants.{Form, Range}
-use Rattle.reader.specs.Faults.{number_of, layer_of}
+use Rattle.reader.specs.Faults.{number_of, layer_of, layer_name}
 use Rattle.reader.specs.declared.fault.Due.{Due}
 use Rattle.reader.specs.declared.fault.Due.TheVariants.{Header, Count, MiddleNode, LastNode, Nothing}
 use Rattle.reader.specs.declared.fault.Fault.{Fault}
-use Rattle.reader.specs.declared.fault.Layer.{Layer}
-use Rattle.reader.specs.declared.fault.Layer.TheVariants.{Line, Word, Contents}
 use Rattle.reader.specs.declared.fault.Question.{Question}
 use Rattle.reader.specs.declared.fault.Question.TheVariants.{Feed, Words, Total, Finish}
 use Rattle.tell.specs.declared.notice.Notice.{Notice}
-
-abbrev pub layer_name : Layer → List ℕ
-layer_name Line = codes "line"
-layer_name Word = codes "word"
-layer_name Contents = codes "contents"
+use Rattle.tell.specs.declared.notice.Reason.{Reason}
+use Rattle.tell.specs.declared.notice.Reason.TheVariants.{TooLong, Faulty}
 
 abbrev pub form_of : Due → List ℕ
 form_of Header = codes "expected `blocks N`"
@@ -51,12 +46,16 @@ abbrev pub line : List ℕ → ℕ → ℕ → List ℕ → List ℕ → ℕ →
 line name at number layer expected place =
     name ++ (codes ":" ++ (decimal at ++ (codes ": number " ++ (decimal number ++ (codes " (" ++ (layer ++ (codes "): " ++ (expected ++ (codes " (byte " ++ (decimal place ++ codes ")"))))))))))
 
-abbrev pub line_of : Notice → List ℕ
-line_of n = line n.name.now n.line n.number n.layer.now n.expected.now n.place
-
 abbrev pub told : List ℕ → Fault → List ℕ
 told name f =
     line name f.line (number_of f.question) (layer_name (layer_of f.question)) (expected_of f.question f.due) f.place
 
 abbrev pub told_long : List ℕ → List ℕ
 told_long name = line name 0 2 (codes "bench") (codes "expected a text of at most 16384 bytes") 0
+
+abbrev pub told_by : List ℕ → Reason → List ℕ
+told_by name TooLong = told_long name
+told_by name (Faulty f) = told name f
+
+abbrev pub line_of : Notice → List ℕ
+line_of n = told_by n.name.now n.reason

@@ -1,27 +1,26 @@
-// The line that tells of a fault.
+// The line that tells of a text that is turned away.
 ghost use Rattle.std.specs.Prelude.{◌≡◌, Some};
 ghost use Rattle.tell.specs.Notices.{line_of, told, told_long};
 
 use super::expected::expected;
-use super::layers::name as layer_name;
 use reader::fault::Fault;
 use std::fmt;
 
-// A fault of a text, with the words that tell of it.
-#[derive(Clone, Copy)]
+// Why a text is turned away.
+#[derive(Clone, Copy, Debug, PartialEq, Eq)]
+pub enum Reason {
+    // it is longer than any script, and so was not read
+    TooLong,
+    // it has this fault
+    Faulty(Fault),
+}
+
+// What is told of a text that is turned away.
+#[derive(Clone, Copy, Debug, PartialEq, Eq)]
 pub struct Notice<'a> {
     // what the text is called, as by its path
     pub name: &'a str,
-    // the line, from 1, or 0 where the text was not read at all
-    pub line: usize,
-    // the number of the question that was answered No
-    pub number: u8,
-    // the layer that put it
-    pub layer: &'static str,
-    // what would have been answered Yes
-    pub expected: &'static str,
-    // the byte where the line begins, from 0
-    pub place: usize,
+    pub reason: Reason,
 }
 
 impl fmt::Display for Notice<'_> {
@@ -29,15 +28,24 @@ impl fmt::Display for Notice<'_> {
 
     fn fmt<W: fmt::Write>(&self, f: &mut fmt::Formatter<W>) -> fmt::Result {
         let name = self.name;
-        let line = self.line;
-        let number = self.number;
-        let layer = self.layer;
-        let expected = self.expected;
-        let place = self.place;
-        write!(
-            f,
-            "{name}:{line}: number {number} ({layer}): {expected} (byte {place})"
-        )
+        match self.reason {
+            // no line and no byte of it was looked at: the numbers are 0
+            Reason::TooLong => write!(
+                f,
+                "{name}:0: number 2 (bench): expected a text of at most 16384 bytes (byte 0)"
+            ),
+            Reason::Faulty(fault) => {
+                let line = fault.line;
+                let number = fault.number();
+                let layer = fault.layer();
+                let expected = expected(fault);
+                let place = fault.place;
+                write!(
+                    f,
+                    "{name}:{line}: number {number} ({layer}): {expected} (byte {place})"
+                )
+            }
+        }
     }
 }
 
@@ -48,11 +56,7 @@ impl<'a> Notice<'a> {
     {
         Notice {
             name,
-            line: fault.line,
-            number: fault.number(),
-            layer: layer_name(fault.layer()),
-            expected: expected(fault.question, fault.due),
-            place: fault.place,
+            reason: Reason::Faulty(fault),
         }
     }
 
@@ -62,11 +66,7 @@ impl<'a> Notice<'a> {
     {
         Notice {
             name,
-            line: 0,
-            number: 2,
-            layer: "bench",
-            expected: "expected a text of at most 16384 bytes",
-            place: 0,
+            reason: Reason::TooLong,
         }
     }
 }
