@@ -30,14 +30,14 @@ impl Marks {
     fn has(&self, register: Register) -> bool
         ensures { result ≡ knows self.now register.index }
     {
-        self.known[register.index as usize]
+        self.known[usize::from(register.index)]
     }
 
     // The marks once a register is known, or no longer known, not to hold 0.
     fn with(mut self, register: Register, known: bool) -> Marks
         ensures { result ≡ marked self register.index known }
     {
-        self.known[register.index as usize] = known;
+        self.known[usize::from(register.index)] = known;
         self
     }
 }

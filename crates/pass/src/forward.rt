@@ -1,4 +1,7 @@
 // Forward passes: from what is known before a node to what is known after it.
+//
+// Middle nodes and last nodes have functions of their own: they take and answer other types, and one function over a trait of
+// nodes would have each pass write an impl for either.
 ghost use Rattle.std.specs.Prelude.{◌≡◌, List, Option as Maybe};
 ghost use Rattle.script.specs.declared.node.Middle.{Middle as MiddleNode};
 ghost use Rattle.script.specs.declared.node.Last.{Last as LastNode};

@@ -28,14 +28,14 @@ impl Numbers {
     fn of(&self, register: Register) -> Option<i32>
         ensures { result ≡ known_as self.now register.index }
     {
-        self.row[register.index as usize]
+        self.row[usize::from(register.index)]
     }
 
     // The fact once a register holds a number that is known or not.
     fn becomes(mut self, register: Register, number: Option<i32>) -> Numbers
         ensures { result ≡ becomes_fact self register.index number }
     {
-        self.row[register.index as usize] = number;
+        self.row[usize::from(register.index)] = number;
         self
     }
 }
@@ -55,7 +55,8 @@ fn sets(to: Register, number: Option<i32>) -> Option<MiddlePiece>
     Some(piece::one(Middle::Set { to, value }))
 }
 
-// `go`, where the number that is tested is known, or both ways lead to one block.
+// `go`, where the number that is tested is known, or both ways lead to one block. By a match, since there are three cases;
+// a chain of `map`, `or` and `?` would be no plainer.
 fn goes(then: u8, other: u8, number: Option<i32>) -> Option<LastPiece>
     ensures { last_piece result ≡ goes_piece then other number }
 {

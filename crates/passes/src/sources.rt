@@ -20,7 +20,7 @@ pub struct Sources {
 fn fine(register: usize, source: Option<u8>) -> bool
     ensures { result ≡ fine_at register source }
 {
-    source.is_none_or(|s| s < REGISTERS && s as usize != register)
+    source.is_none_or(|s| s < REGISTERS && usize::from(s) != register)
 }
 
 // A source, unless it is d.
@@ -56,7 +56,7 @@ impl Sources {
     pub fn of(&self, register: Register) -> Option<Register>
         ensures { result ≡ source_of self.now.row register }
     {
-        let index = self.row[register.index as usize]?;
+        let index = self.row[usize::from(register.index)]?;
         Some(Register { index })
     }
 
@@ -74,7 +74,7 @@ impl Sources {
         ensures { result.row ≡ killed self.now.row d.index }
     {
         let mut row = cleared(self.row, d);
-        row[d.index as usize] = None;
+        row[usize::from(d.index)] = None;
         Sources { row }
     }
 
@@ -86,7 +86,7 @@ impl Sources {
             return *self;
         }
         let mut row = self.kill(d).row;
-        row[d.index as usize] = Some(a.index);
+        row[usize::from(d.index)] = Some(a.index);
         Sources { row }
     }
 

@@ -3,7 +3,7 @@
 // The registers are r0 upward, so many.
 pub const REGISTERS: u8 = 16;
 
-// The length of a row with one element for each register.
+// The length of a row with one element for each register. By `as`: a constant can't call `usize::from`.
 pub const EACH_REGISTER: usize = REGISTERS as usize;
 
 // The slots are 0 upward, so many.

@@ -1,4 +1,5 @@
-// A register and a slot: numbers below sixteen.
+// A register and a slot: numbers below sixteen. One type with the limit as a parameter would be no plainer: both limits are
+// sixteen, so a slot could stand for a register.
 ghost use Rattle.std.specs.Prelude.{◌≡◌, ◌<◌};
 ghost use Rattle.script.specs.Limits.{registers, slots};
 

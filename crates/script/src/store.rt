@@ -1,7 +1,7 @@
 // A script, in two rows: the middle nodes of all blocks one after the other, and the end of each block.
 //
 // The memory of both rows is reserved when a script is made and is enough for every script, so changing a script never
-// asks for more.
+// asks for more. A vector of nodes in each block would have to: hence the one row, and the places where blocks end in it.
 ghost use Rattle.std.specs.Prelude.{◌≡◌, ◌<◌, ◌≤◌, true, length, vec_capacity};
 ghost use Rattle.script.specs.Limits.{most_blocks, most_middles};
 ghost use Rattle.script.specs.Shape.{ends_at, all_below};
