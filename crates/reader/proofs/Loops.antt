@@ -14,10 +14,6 @@ use Rattle.reader.specs.Totals.{total}
 abbrev pub joins : {A : Type 0} → List A → Step (List A) → Step (List A)
 joins xs r = then r (λ t. Ok (xs ++ t.0, t.1))
 
-pub joins_start : {A : Type 0} (r : Step (List A)) → r ≡ joins [] r
-joins_start (Ok t) = refl
-joins_start (Err f) = refl
-
 pub joins_more : {A : Type 0} (xs : List A) (x : A) (r : Step (List A)) → joins xs (then r (λ t. Ok (x ∷ t.0, t.1))) ≡ joins (xs ++ x ∷ []) r
 joins_more xs x (Ok t) = ap (λ l. Ok (l, t.1)) (sym (append_assoc xs (x ∷ []) t.0))
 joins_more xs x (Err f) = refl
