@@ -13,7 +13,7 @@ use words::line::{Operands, cut, operands};
 use words::table::find;
 use words::verb::Verb;
 
-// A number that is below `end` where it is read.
+// A number that is below `end` where it is read. By `as`: a try_from would make an error that can't come.
 fn below(x: i32, end: u32) -> u8
     requires some { 0 < end }
     requires small { end ≤ 256 }

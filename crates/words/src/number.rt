@@ -55,6 +55,7 @@ pub(crate) fn unsigned(digits: &[u8], range: Range<u64>) -> Result<i32, Flaw>
     ensures { result ≡ checked (from_to range.start range.end) (unsigned_word digits.now) }
 {
     let n = within(number(digits), range)?;
+    // `as`: i32 has no From<u64>, and a try_from would make an error that can't come.
     Ok(n as i32)
 }
 
@@ -64,6 +65,7 @@ fn minus(digits: &[u8]) -> Result<i32, Flaw>
 {
     let size = number(digits).filter(|n| *n != 0);
     let n = within(size, 0..HALF + 1)?;
+    // `as`, for the same reason; HALF itself has no i32 before the minus sign.
     Ok((-(n as i64)) as i32)
 }
 

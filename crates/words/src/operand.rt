@@ -17,6 +17,7 @@ pub fn operand(kind: Kind, blocks: u8, word: &[u8]) -> Result<i32, Flaw>
         (Kind::RegisterWord | Kind::BlockWord, _) => Err(Flaw::Form),
         (Kind::SlotWord, _) => unsigned(word, 0..u64::from(SLOTS)),
         (Kind::NumberWord, _) => signed(word),
+        // `as`: u64 has no From<usize>, and a try_from would make an error that can't come.
         (Kind::SizeWord, _) => unsigned(word, 1..MOST_BLOCKS as u64 + 1),
         (Kind::CountWord, _) => unsigned(word, 0..MOST_MIDDLES as u64 + 1),
     }

@@ -91,7 +91,8 @@ const NODES: [NodeForm; 14] = [
     },
 ];
 
-// The word that a node's line begins with.
+// The word that a node's line begins with. By the verb's place (`as`), since the rows stand in the order of the verbs; a
+// search for the row would be no plainer.
 pub fn name(verb: Verb) -> &'static [u8]
     ensures { result.now ≡ name_of verb }
 {
