@@ -1,7 +1,8 @@
 -- A script in two rows, block after block.
-use Rattle.std.proofs.Common.{◌≡◌, ℕ, zero, suc, ◌+◌, ◌-◌, ◌%◌, ◌<◌, ◌≤◌, true, ltb, List, [], ◌∷◌, ◌++◌, length, get_or, take, drop, ℤ, nat_abs, Ok, Err, Result, sym, refl, ap, ◌∙◌, mod-eq_of_lt, arith, length-append, length-drop}
+use Rattle.std.proofs.Common.{◌≡◌, ℕ, ◌+◌, ◌-◌, ◌%◌, ◌<◌, ◌≤◌, true, ltb, List, [], ◌∷◌, ◌++◌, length, get_or, take, drop, ℤ, nat_abs, Ok, Err, Result, sym, refl, ap, ◌∙◌, mod-eq_of_lt, arith, length-append, length-drop}
 use Rattle.std.proofs.lemmas.Bool.{leb-true, le-leb, eqb-true, eq-eqb, lt-ltb, and_parts, and_from}
-use Rattle.std.proofs.lemmas.List.{take-append-le, drop-append-le, take_all, drop_at, drop_more, take_more}
+use Rattle.std.proofs.lemmas.List.{take-append-le, drop-append-le, take_all, drop_at, drop_more}
+use Rattle.std.proofs.lemmas.List.Sums.{sum_by_more, sum_by_more_le}
 use Rattle.script.specs.declared.node.Middle.{Middle}
 use Rattle.script.specs.declared.node.Last.{Last}
 use Rattle.script.specs.Run.{Block, Program}
@@ -20,7 +21,7 @@ use Rattle.words.proofs.Rows.{Fit}
 use Rattle.reader.proofs.Dues.{due_is}
 use Rattle.reader.specs.Steps.{Gives}
 use Rattle.reader.specs.Totals.{total}
-use Rattle.reader.proofs.Loops.{joins, joins_more, total_push}
+use Rattle.reader.proofs.Loops.{joins, joins_more, total_sum}
 
 module _ (b : BlockEnd) where
   ends_more : (from : ℕ) (bs : List BlockEnd) (size : ℕ) → ends_at from bs size ≡ true → size ≤ b.end → ends_at from (bs ++ b ∷ []) b.end ≡ true
@@ -91,16 +92,8 @@ module _ (n : ℕ) (ks : List ℕ) (i : ℕ) (c : Cursor) (p : Program) (h : i <
   bodies_step : (b : Block) (d : Cursor) → body n (get_or ks i 0) c ≡ Ok (b, d) → joins p (bodies n (drop i ks) c) ≡ joins (p ++ b ∷ []) (bodies n (drop (i + 1) ks) d)
   bodies_step b d e = ap (joins p) (ap (λ l. bodies n l c) (drop_more ks i 0 h) ∙ ap (λ r. then r after_block) e) ∙ joins_more p b (bodies n (drop (i + 1) ks) d)
 
-total_more : (ks : List ℕ) (i : ℕ) → i < length ks → total (take (i + 1) ks) ≡ total (take i ks) + get_or ks i 0
-total_more ks i h = ap total (take_more ks i 0 h) ∙ total_push (take i ks) (get_or ks i 0)
-
-total_part : (ks : List ℕ) (i : ℕ) → total (take i ks) ≤ total ks
-total_part ks zero = omega arith
-total_part [] (suc i) = omega arith
-total_part (k ∷ ks) (suc i) = omega (arith, total_part ks i)
-
 pub total_room : (ks : List ℕ) (i : ℕ) → i < length ks → total (take i ks) + get_or ks i 0 ≤ total ks
-total_room ks i h = omega (arith, total_more ks i h, total_part ks (i + 1))
+total_room ks i h = omega (arith, total_sum (take i ks), total_sum ks, sum_by_more_le (λ k. k) ks i 0 h)
 
 -- the blocks so far, and the reading of the others
 pub record Built (n : ℕ) (ks : List ℕ) (all : Step Program) (i : ℕ) (c : Cursor) (ms : List Middle) (bs : List BlockEnd) : Type 0 where
@@ -121,5 +114,5 @@ module _ (n : ℕ) (ks : List ℕ) (all : Step Program) (i : ℕ) (c : Cursor) (
         ends = (λ j. ends_at 0 (eb j) (sym end j)) ∙ ends_more b 0 bs (length ms) s.ends (omega arith);
         targets = ap (all_below n) eb ∙ below_block b n bs s.targets low;
         many = ap length eb ∙ length-append bs (b ∷ []) ∙ omega (arith, s.many);
-        size = omega (arith, both, long, s.size, total_more ks i h);
+        size = omega (arith, both, long, s.size, total_sum (take (i + 1) ks), total_sum (take i ks), sum_by_more (λ k. k) ks i 0 h);
       }

@@ -1,5 +1,5 @@
 -- The line that is due, when it is read and when it is written.
-use Rattle.std.proofs.Common.{◌≡◌, ℕ, ◌≤◌, true, List, ◌∷◌, ◌++◌, Some, None, Ok, Err, Option, Result, sym, ap, ◌∙◌, arith}
+use Rattle.std.proofs.Common.{◌≡◌, ℕ, ◌≤◌, true, List, ◌∷◌, ◌++◌, Some, None, Ok, Err, Option, Result, sym, ap, ◌∙◌}
 use Rattle.std.specs.Result.{MatchResult, IsErrAnd}
 use Rattle.script.specs.Limits.{most_blocks}
 use Rattle.words.specs.declared.flaw.Flaw.{Flaw}
@@ -16,11 +16,11 @@ use Rattle.reader.specs.Steps.{Gives}
 module _ {A : Type 0} (d : Due) (n : ℕ) where
   judged_is : (c next : Cursor) (x : Result A Flaw) (y : A × Cursor) → judged d c next x ≡ Ok y → (x ≡ Ok y.0) × (next ≡ y.1)
   judged_is c next (Ok a) y e = let q : (a, next) ≡ y = cc in (ap (λ (p : A × Cursor). Ok p.0) q, ap (λ (p : A × Cursor). p.1) q)
-  judged_is c next (Err f) y e = absurd (let z : ◌≡◌ {A = ℕ} 0 1 = cc in omega arith)
+  judged_is c next (Err f) y e = cc
 
   ended_is : (rows : List (Row A)) (c : Cursor) (l : List ℕ) (o : Option (List ℕ)) (y : A × Cursor) → ended_line d n rows c l o ≡ Ok y
       → (l ++ after 10 o ≡ l ++ 10 ∷ y.1.rest) × (line_as n rows l ≡ Ok y.0)
-  ended_is rows c l None y e = absurd (let z : ◌≡◌ {A = ℕ} 0 1 = cc in omega arith)
+  ended_is rows c l None y e = cc
   ended_is rows c l (Some rest) y e =
       let two = judged_is c (past c l rest) (line_as n rows l) y e in
       ((λ i. l ++ 10 ∷ (two.1 i).rest), two.0)
@@ -47,6 +47,6 @@ module _ {A : Type 0} (d : Due) (n : ℕ) where
   pub due_made : (rows : List (Row A)) (c next : Cursor) (l rest : List ℕ) → cut 10 c.rest ≡ (l, Some rest) → next ≡ past c l rest → (r : Result A Flaw) → r ≡ line_as n rows l
       → (o : Result A Fault) → MatchResult r (λ x. o ≡ Ok x) (λ e. IsErrAnd o (λ f. f ≡ fault (Words e) d c)) → Gives (due d n rows c) o next
   due_made rows c next l rest q p (Ok x) e (Ok y) h = due_cut rows c next l rest q p (Ok x) e ∙ (let s : x ≡ y = cc (sym h) in ap (λ z. Ok (z, next)) s)
-  due_made rows c next l rest q p (Ok x) e (Err f) h = absurd (let z : ◌≡◌ {A = ℕ} 0 1 = cc h in omega arith)
+  due_made rows c next l rest q p (Ok x) e (Err f) h = cc h
   due_made rows c next l rest q p (Err g) e (Ok y) h = absurd h
   due_made rows c next l rest q p (Err g) e (Err f) h = due_cut rows c next l rest q p (Err g) e ∙ ap Err (sym h)

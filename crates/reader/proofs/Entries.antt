@@ -33,8 +33,7 @@ names_err w i h f e =
     let in_range : from_to 0 most_blocks (pos i) ≡ true = and_from _ _ (not_from_false _ (le-ltb i 0 (omega arith))) (lt-ltb i most_blocks h) in
     let read : operand most_blocks BlockWord w ≡ Ok (pos i) = ap (operand most_blocks BlockWord) is ∙ operand_written most_blocks (omega arith) BlockWord (pos i) in_range in
     let clash : Err f ≡ Ok (pos i) = e ∙ read in
-    let z : ◌≡◌ {A = ℕ} 0 1 = cc clash in
-    omega arith)
+    cc clash)
 
 pub names : (w : List ℕ) (i : ℕ) → i < most_blocks → (o : Result ℤ Flaw) → o ≡ operand most_blocks BlockWord w → (b : Bool) (Is : ℤ → Type 0) → MatchResult o Is (λ f. b ≡ false) → ((x : ℤ) → Is x → b ≡ eqb (of_z w32 x) i)
     → b ≡ bytes_eq w (98 ∷ decimal i)
@@ -42,8 +41,6 @@ names w i h (Ok x) e b Is k said = said x k ∙ names_ok w i h x e
 names w i h (Err f) e b Is k said = k ∙ sym (names_err w i h f e)
 
 module _ {A : Type 0} (n : ℕ) (r : Row A) (l : List ℕ) where
-  pub row_hit : bytes_eq (cut 32 l).0 r.name ≡ true → line_as n (r ∷ []) l ≡ made_by r (operands n r.kinds (cut 32 l).1)
-  row_hit e = ap (λ t. follow n (cond t (Some r) None) (cut 32 l).1) e
-
-  pub row_miss : bytes_eq (cut 32 l).0 r.name ≡ false → line_as n (r ∷ []) l ≡ Err Form
-  row_miss e = ap (λ t. follow n (cond t (Some r) None) (cut 32 l).1) e
+  pub row_named : (b : Bool) → b ≡ bytes_eq (cut 32 l).0 r.name → cond b (made_by r (operands n r.kinds (cut 32 l).1)) (Err Form) ≡ line_as n (r ∷ []) l
+  row_named true e = ap (λ t. follow n (cond t (Some r) None) (cut 32 l).1) e
+  row_named false e = ap (λ t. follow n (cond t (Some r) None) (cut 32 l).1) e

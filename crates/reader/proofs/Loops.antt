@@ -1,4 +1,6 @@
 -- Reading one after the other.
+use Rattle.std.specs.List.{sum}
+use Rattle.std.proofs.lemmas.List.Sums.{sum_by-cons, sum_by_push}
 use Rattle.std.proofs.Common.{◌≡◌, ℕ, suc, ◌+◌, ◌-◌, ◌<◌, ◌≤◌, cond, leb, List, [], ◌∷◌, ◌++◌, Ok, Err, sym, refl, ap, ◌∙◌, append_assoc, add-one, arith}
 use Rattle.std.proofs.lemmas.Bool.{le-leb, lt-leb}
 use Rattle.script.specs.Limits.{most_middles}
@@ -18,9 +20,12 @@ pub joins_more : {A : Type 0} (xs : List A) (x : A) (r : Step (List A)) → join
 joins_more xs x (Ok t) = ap (λ l. Ok (l, t.1)) (sym (append_assoc xs (x ∷ []) t.0))
 joins_more xs x (Err f) = refl
 
+pub total_sum : (xs : List ℕ) → total xs ≡ sum xs
+total_sum [] = refl
+total_sum (x ∷ xs) = ap (λ t. x + t) (total_sum xs) ∙ sym (sum_by-cons (λ k. k) x xs)
+
 pub total_push : (xs : List ℕ) (k : ℕ) → total (xs ++ k ∷ []) ≡ total xs + k
-total_push [] k = omega arith
-total_push (x ∷ xs) k = omega (arith, total_push xs k)
+total_push xs k = total_sum (xs ++ k ∷ []) ∙ sum_by_push (λ k. k) xs k ∙ ap (λ t. t + k) (sym (total_sum xs))
 
 down : (n i : ℕ) → i < n → n - i ≡ suc (n - (i + 1))
 down n i h = omega arith

@@ -27,6 +27,7 @@ impl Cursor<'_> {
         requires { length row.old.items + count ≤ most_middles }
         ensures { elim result [ Ok _ ↦ ((xs : List Middle) × (row.new.items ≡ row.old.items ++ xs) × (length xs ≡ count) × (middles_from blocks count (cursor_of self.old) ≡ Ok (xs, cursor_of self.new))) | Err f ↦ middles_from blocks count (cursor_of self.old) ≡ Err f ] }
     {
+        // So many nodes: nothing is there yet to go through.
         for _ in 0..count {
             row.push(self.middle(blocks)?);
         }

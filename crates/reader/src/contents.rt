@@ -21,6 +21,7 @@ impl Cursor<'_> {
     {
         let mut counts = ArrayVec::new();
         let mut total: usize = 0;
+        // i is the number in the block's name, and no index.
         for i in 0..n {
             let start = *self;
             // `as`: usize has no From<u32>, and a try_from would make an error that can't come.

@@ -1,10 +1,10 @@
 // Reads the lines before the bodies, each without its line feed.
-ghost use Rattle.std.specs.Prelude.{◌≡◌, ◌<◌, ℕ, List, [], ◌∷◌, decimal};
-ghost use Rattle.std.specs.Fn.{FnOnceReturnsAt};
+ghost use Rattle.std.specs.Prelude.{◌≡◌, ◌<◌, cond, [], ◌∷◌, Err, decimal, option_map};
 ghost use Rattle.std.specs.Str.{bytes_eq};
-ghost use Rattle.reader.specs.Steps.{Computes};
 ghost use Rattle.script.specs.Limits.{most_blocks};
-ghost use Rattle.words.specs.Forms.{header_row, contents_row, line_as};
+ghost use Rattle.words.specs.Words.{operands};
+ghost use Rattle.words.specs.Forms.{header_row, contents_row, made_by, line_as};
+ghost use Rattle.words.specs.declared.flaw.Flaw.TheVariants.{Form};
 
 use script::limits::MOST_BLOCKS;
 use words::flaw::Flaw;
@@ -14,13 +14,11 @@ use words::operand::operand;
 
 const BLOCKS: &[u8] = b"blocks";
 
-// A line with one number of this kind after a word that `is_first` knows.
-fn numbered<F: FnOnce(&[u8]) -> bool>(line: &[u8], kind: Kind, is_first: F) -> Result<u32, Flaw>
-    requires { F.IsAlwaysCallable is_first }
-    ensures { (name : List ℕ) → Computes (FnOnceReturnsAt F.FnOnce is_first) (λ word. bytes_eq word name) → result ≡ line_as 0 (record { name = name; kinds = kind ∷ []; make = (contents_row 0).make } ∷ []) line.now }
+// The one number of this kind after a first word, if that word is the one due.
+fn numbered(named: bool, kind: Kind, rest: Option<&[u8]>) -> Result<u32, Flaw>
+    ensures { result ≡ cond named (made_by (contents_row 0) (operands 0 (kind ∷ []) (option_map (λ x. x.now) rest.entry))) (Err Form) }
 {
-    let (first, rest) = cut(line, b' ');
-    if is_first(first) {
+    if named {
         one_number(kind, rest)
     } else {
         Err(Flaw::Form)
@@ -31,7 +29,8 @@ fn numbered<F: FnOnce(&[u8]) -> bool>(line: &[u8], kind: Kind, is_first: F) -> R
 pub(crate) fn header(line: &[u8]) -> Result<u32, Flaw>
     ensures { result ≡ line_as 0 (header_row ∷ []) line.now }
 {
-    numbered(line, Kind::SizeWord, |first| first == BLOCKS)
+    let (first, rest) = cut(line, b' ');
+    numbered(first == BLOCKS, Kind::SizeWord, rest)
 }
 
 // Whether a word is the name of block i.
@@ -48,5 +47,6 @@ pub(crate) fn count(i: u8, line: &[u8]) -> Result<u32, Flaw>
     requires { i < most_blocks }
     ensures { result ≡ line_as 0 (contents_row i ∷ []) line.now }
 {
-    numbered(line, Kind::CountWord, |first| names_block(first, i))
+    let (first, rest) = cut(line, b' ');
+    numbered(names_block(first, i), Kind::CountWord, rest)
 }

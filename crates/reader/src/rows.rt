@@ -1,6 +1,5 @@
 // A script that was read, in rows of the reader's own.
-ghost use Rattle.std.specs.Prelude.{◌≡◌, ◌<◌, ◌≤◌, true, length};
-ghost use Rattle.script.specs.Limits.{most_blocks, most_middles};
+ghost use Rattle.std.specs.Prelude.{◌≡◌, ◌<◌, true, length};
 ghost use Rattle.script.specs.Shape.{ends_at, all_below};
 
 use arrayvec::ArrayVec;
@@ -9,14 +8,14 @@ use script::limits::{MOST_BLOCKS, MOST_MIDDLES};
 use script::node::Middle;
 use script::store::Script;
 
-// The rows as a script stores them: the middle nodes of all blocks one after the other, and the end of each block.
+// The rows as a script stores them: the middle nodes of all blocks one after the other, and the end of each block. What
+// holds of them is said again, since a script has memory reserved in vectors and these have fixed memory: two types, over
+// the same definitions.
 #[derive(Drop)]
 pub(crate) struct Rows {
     pub(crate) middles: ArrayVec<Middle, MOST_MIDDLES>,
     pub(crate) ends: ArrayVec<BlockEnd, MOST_BLOCKS>,
     ghost some: { 0 < length ends.items },
-    ghost few: { length ends.items ≤ most_blocks },
-    ghost small: { length middles.items ≤ most_middles },
     ghost order: { ends_at 0 ends.items (length middles.items) ≡ true },
     ghost named: { all_below (length ends.items) ends.items ≡ true },
 }

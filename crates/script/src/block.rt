@@ -9,7 +9,7 @@ pub struct BlockEnd {
 }
 
 // A block: its middle nodes in order, and its last node.
-#[derive(Clone, Copy)]
+#[derive(Clone, Copy, Debug, PartialEq, Eq)]
 pub struct Block<'a> {
     pub middles: &'a [Middle],
     pub last: Last,

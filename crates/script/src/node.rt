@@ -44,7 +44,7 @@ pub enum Middle {
     },
 }
 
-// `put r0`, which stands in the places of a row that no node has taken.
+// `put r0`, which stands in the places of a row that no node has taken. By hand: only a variant without fields can be derived.
 impl Default for Middle {
     ghost use Rattle.std.specs.Prelude.{◌≡◌};
     ghost use Rattle.script.specs.Model.{unused};
@@ -52,9 +52,8 @@ impl Default for Middle {
     ghost is_default = { λ m. m ≡ unused };
 
     fn default() -> Middle {
-        Middle::Put {
-            from: Register { index: 0 },
-        }
+        let from = Register::default();
+        Middle::Put { from }
     }
 }
 
@@ -69,7 +68,7 @@ pub enum Last {
     End { from: Register },
 }
 
-// `end r0`
+// `end r0`. By hand, as `put r0`.
 impl Default for Last {
     ghost use Rattle.std.specs.Prelude.{◌≡◌};
     ghost use Rattle.script.specs.Run.{end_r0};
@@ -77,8 +76,7 @@ impl Default for Last {
     ghost is_default = { λ l. l ≡ end_r0 };
 
     fn default() -> Last {
-        Last::End {
-            from: Register::default(),
-        }
+        let from = Register::default();
+        Last::End { from }
     }
 }

@@ -10,7 +10,7 @@ pub struct Register {
     ghost ok: { index < registers },
 }
 
-// r0
+// r0. By hand: a struct with a ghost field has no derived one.
 impl Default for Register {
     ghost is_default = { λ r. r.index ≡ 0 };
 

@@ -7,6 +7,3 @@ returns-in-Add c = search (rules, wraps)
 
 pub returns-in-Sub : goal.returns-in-Sub
 returns-in-Sub c = search (rules, wraps)
-
-pub returns-in-Mul : goal.returns-in-Mul
-returns-in-Mul c = search (rules, wraps)

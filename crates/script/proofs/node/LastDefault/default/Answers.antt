@@ -4,4 +4,4 @@ use Rattle.script.proofs.Same.{same_register}
 use Rattle.script.proofs.node.LastDefault.default.Goals as goal
 
 pub returns : goal.returns
-returns c = ap End (same_register _ _ c.default.ensures)
+returns c = ap End (same_register _ _ c.default-from.ensures)
