@@ -1,6 +1,7 @@
 -- A line whose first word is the name of no verb.
 use Rattle.std.proofs.Common.{◌≡◌, ℕ, cond, List, [], ◌∷◌, Some, None, Err, sym, refl, ap, ◌∙◌}
 use Rattle.std.specs.Str.{bytes_eq}
+use Rattle.std.proofs.lemmas.Bool.{false_from_ne_true}
 use Rattle.std.proofs.lemmas.Slice.Eq.{bytes_eq-Decides}
 use Rattle.words.specs.declared.flaw.Flaw.TheVariants.{Form}
 use Rattle.words.specs.declared.verb.Verb.{Verb}
@@ -8,7 +9,6 @@ use Rattle.words.specs.declared.verb.Verb.TheVariants.{Set, Mov, Add, Sub, Mul, 
 use Rattle.words.specs.Forms.{Row, seek, follow, line_as, middle_rows, last_rows}
 use Rattle.words.specs.Table.{name_of}
 use Rattle.words.specs.Words.{cut}
-use Rattle.words.proofs.Cuts.{never}
 
 module _ {A : Type 0} (w : List ℕ) where
   abbrev Others : List (Row A) → Type 0
@@ -18,7 +18,7 @@ module _ {A : Type 0} (w : List ℕ) where
   seek_none : (rows : List (Row A)) → Others rows → seek rows w ≡ None
   seek_none [] n = refl
   seek_none (r ∷ rs) n =
-      ap (λ t. cond t (Some r) (seek rs w)) (sym (never (bytes_eq w r.name) (λ t. n.0 (sym ((bytes_eq-Decides w r.name).0 t)))))
+      ap (λ t. cond t (Some r) (seek rs w)) (false_from_ne_true (bytes_eq w r.name) (λ t. n.0 (sym ((bytes_eq-Decides w r.name).0 t))))
       ∙ seek_none rs n.1
 
 pub middle_missing : (w : List ℕ) → ((v : Verb) → name_of v ≡ w → ⊥) → seek middle_rows w ≡ None
