@@ -43,7 +43,7 @@ fn put_operand(page: &mut Page, kind: Kind, value: i32) -> Result<(), CapacityEr
     put_word(page, kind, value)
 }
 
-// Words of these kinds, each after a space.
+// Words of these kinds, each after a space. Where one list is longer, what is left of it is not written.
 pub(crate) fn put_operands(
     page: &mut Page,
     kinds: &[Kind],
