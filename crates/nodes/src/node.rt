@@ -1,9 +1,12 @@
 // Reads the lines of the nodes, each without its line feed.
-ghost use Rattle.std.specs.Prelude.{◌≡◌, ◌%◌, ◌<◌, ◌≤◌, Bool, true, false, length, unsigned_abs, IfOk};
-ghost use Rattle.std.specs.Result.{result_map_both};
+ghost use Rattle.std.specs.Prelude.{◌≡◌, ◌≢◌, ◌%◌, ◌<◌, ◌≤◌, Bool, true, false, length, unsigned_abs, MatchResult};
+ghost use Rattle.std.specs.Option.{option_map};
 ghost use Rattle.nodes.specs.Nodes.{ends_block, middle_make, last_make};
 ghost use Rattle.words.specs.Forms.{register as register_of, slot as slot_of, compute_row, middle_rows, last_rows, line_as};
-ghost use Rattle.words.specs.Table.{kinds_of};
+ghost use Rattle.words.specs.Table.{name_of, kinds_of};
+ghost use Rattle.words.specs.Words.{cut as cut_at};
+ghost use Rattle.words.specs.declared.flaw.Flaw.TheVariants.{Form};
+ghost use Rattle.words.specs.declared.verb.Verb.{Verb as AnyVerb};
 
 use script::limits::{REGISTERS, SLOTS};
 use script::node::{Last, Middle, Operation};
@@ -22,7 +25,8 @@ fn below(x: i32, end: u32) -> u8
     (x.unsigned_abs() % end) as u8
 }
 
-// A register. One function of registers and slots would need a trait, which is more than the two lines that it saves.
+// A register. No `From`: an operand is put into range here, which no other caller should meet, and neither type is this
+// crate's. One function of registers and slots would need a trait, which is more than the two lines that it saves.
 fn register(x: i32) -> Register
     ensures { result ≡ register_of (unsigned_abs x) }
 {
@@ -31,7 +35,7 @@ fn register(x: i32) -> Register
     }
 }
 
-// A slot.
+// A slot. No `From`, for the same reason.
 fn slot(x: i32) -> Slot
     ensures { result ≡ slot_of (unsigned_abs x) }
 {
@@ -40,7 +44,7 @@ fn slot(x: i32) -> Slot
     }
 }
 
-// A block's place in the script.
+// A block's place in the script. No `From`: it is a remainder, and a plain u8.
 fn block(x: i32) -> u8
     ensures { result ≡ unsigned_abs x % 256 }
 {
@@ -121,28 +125,26 @@ fn last_of(verb: Verb, numbers: &[i32]) -> Last
     }
 }
 
-// The verb of a line and the numbers of its operands, where the verb is that of a last node if one is due, and else that
-// of a middle node.
-fn parts(line: &[u8], blocks: u8, last_due: bool) -> Result<(Verb, Operands), Flaw>
-    ensures due { IfOk result (λ p. ends_block p.0 ≡ last_due) }
-    ensures many { IfOk result (λ p. length p.1.items ≡ length (kinds_of p.0)) }
-    ensures middle { last_due ≡ false → result_map_both (λ p. middle_make p.0 p.1.items) (λ f. f) result ≡ line_as blocks middle_rows line.now }
-    ensures last { last_due ≡ true → result_map_both (λ p. last_make p.0 p.1.items) (λ f. f) result ≡ line_as blocks last_rows line.now }
+// The verb of a line, and what follows its first word.
+fn head(line: &[u8]) -> Result<(Verb, Option<&[u8]>), Flaw>
+    ensures { MatchResult result
+        (λ p. (name_of p.0 ≡ (cut_at 32 line.now).0) × (option_map (λ x. x.now) p.1 ≡ (cut_at 32 line.now).1))
+        (λ f. (f ≡ Form) × ((v : AnyVerb) → name_of v ≢ (cut_at 32 line.now).0)) }
 {
     let (first, rest) = cut(line, b' ');
     let verb = find(first).ok_or(Flaw::Form)?;
-    if ends(verb) != last_due {
-        return Err(Flaw::Form);
-    }
-    let numbers = operands(verb, blocks, rest)?;
-    Ok((verb, numbers))
+    Ok((verb, rest))
 }
 
 // A middle node, in a script of so many blocks.
 pub fn middle(line: &[u8], blocks: u8) -> Result<Middle, Flaw>
     ensures { result ≡ line_as blocks middle_rows line.now }
 {
-    let (verb, numbers) = parts(line, blocks, false)?;
+    let (verb, rest) = head(line)?;
+    if ends(verb) {
+        return Err(Flaw::Form);
+    }
+    let numbers = operands(verb, blocks, rest)?;
     Ok(middle_of(verb, &numbers))
 }
 
@@ -150,6 +152,10 @@ pub fn middle(line: &[u8], blocks: u8) -> Result<Middle, Flaw>
 pub fn last(line: &[u8], blocks: u8) -> Result<Last, Flaw>
     ensures { result ≡ line_as blocks last_rows line.now }
 {
-    let (verb, numbers) = parts(line, blocks, true)?;
+    let (verb, rest) = head(line)?;
+    if !ends(verb) {
+        return Err(Flaw::Form);
+    }
+    let numbers = operands(verb, blocks, rest)?;
     Ok(last_of(verb, &numbers))
 }

@@ -6,11 +6,6 @@ use Rattle.std.specs.Option.{MatchOption}
 use Rattle.std.proofs.lemmas.Bool.{eqb-true, eq-eqb, not-true, and_parts, and_from, not_from_false, ne_eqb}
 use Rattle.words.specs.Words.{cut}
 
--- a test that can't come out true comes out false
-pub never : (b : Bool) → (b ≡ true → ⊥) → false ≡ b
-never true f = absurd (f refl)
-never false f = refl
-
 -- the byte and what follows it, if there is something
 abbrev pub after : ℕ → Option (List ℕ) → List ℕ
 after c None = []

@@ -6,6 +6,7 @@ use Rattle.std.specs.Str.{all_ascii_digits}
 use Rattle.std.specs.Fmt.{signed_decimal}
 use Rattle.std.proofs.lemmas.Bool.{true≢false, false≢true, ltb-true, ltb-false, leb-true, eqb-true, ne_eqb, not-true, not_from_false, and_parts, and_from, cond-true, eqb-false}
 use Rattle.std.proofs.lemmas.Fmt.{decimal_digit, digits_decimal, digits_value-decimal, decimal_nonempty, first_decimal, decimal-digits_value, length-decimal-le}
+use Rattle.std.proofs.lemmas.Option.{cond_some}
 use Rattle.std.proofs.lemmas.Str.Parse.{IsNumeralModel, numerals_by_fold}
 use Rattle.script.specs.Limits.{registers, slots, most_blocks, most_middles}
 use Rattle.words.specs.declared.flaw.Flaw.TheVariants.{Range}
@@ -114,17 +115,13 @@ plain_is : (ds : List ℕ) → plain ds ≡ true → value_after 0 ds < 2 ^ 64 �
 plain_is ds h s = decimal-digits_value own ds (plain_digits ds h) (plain_some ds h) (plain_first ds h) s
 
 -- a test that was passed
-pub some_if : {A : Type 0} (b : Bool) (x y : A) → cond b (Some x) None ≡ Some y → (b ≡ true) × (x ≡ y)
-some_if true x y e = (refl, cc)
-some_if false x y e = absurd (cc)
-
-pub some_when : {A : Type 0} (b : Bool) (o : Option A) (y : A) → cond b o None ≡ Some y → (b ≡ true) × (o ≡ Some y)
+some_when : {A : Type 0} (b : Bool) (o : Option A) (y : A) → cond b o None ≡ Some y → (b ≡ true) × (o ≡ Some y)
 some_when true o y e = (refl, e)
 some_when false o y e = absurd (cc)
 
 unsigned_is : (w : List ℕ) (z : ℤ) → mag z < 2 ^ 31 → unsigned_word w ≡ Some z → w ≡ signed_decimal z
 unsigned_is w z m e =
-    let two = some_if (plain w) (pos (value_after 0 w)) z e in
+    let two = cond_some (plain w) (pos (value_after 0 w)) z e in
     sym (plain_is w two.0 (omega (arith, ap mag two.1))) ∙ ap signed_decimal two.1
 
 lettered_is : (c : ℕ) (w : List ℕ) (z : ℤ) → mag z < 2 ^ 31 → lettered_word c w ≡ Some z → w ≡ c ∷ signed_decimal z
@@ -143,7 +140,7 @@ mag_minus (suc m) = omega arith
 
 minus_is : (ds : List ℕ) (z : ℤ) → mag z < 2 ^ 31 → minus_word ds ≡ Some z → 45 ∷ ds ≡ signed_decimal z
 minus_is ds z m e =
-    let two = some_if (plain ds && not (eqb (value_after 0 ds) 0)) (neg_ℤ (pos (value_after 0 ds))) z e in
+    let two = cond_some (plain ds && not (eqb (value_after 0 ds) 0)) (neg_ℤ (pos (value_after 0 ds))) z e in
     let tests = and_parts _ _ two.0 in
     let small : value_after 0 ds < 2 ^ 64 = omega (arith, mag_minus (value_after 0 ds), ap mag two.1) in
     sym (ap (λ l. 45 ∷ l) (plain_is ds tests.0 small)) ∙ sym (signed_minus (value_after 0 ds) (eqb-false _ _ (not-true _ tests.1))) ∙ ap signed_decimal two.1

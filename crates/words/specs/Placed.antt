@@ -1,8 +1,9 @@
--- Writing a piece onto a page of a fixed size, all or nothing.
-use Rattle.std.specs.Prelude.{◌≡◌, ℕ, ◌+◌, ◌<◌, ◌≤◌, List, ◌++◌, length, Ok, Err, Result}
+-- Writing a piece into lent bytes, all or nothing.
+use Rattle.std.specs.Prelude.{◌≡◌, ℕ, ◌+◌, ◌<◌, ◌≤◌, List, ◌++◌, length, take, drop, Some, None, Option}
 
--- Placed size r old piece new: where the piece fits behind old into so many bytes, r is Ok and new is old and then the
--- piece; where it does not, r is an error and new is old.
-abbrev pub Placed : {A E : Type 0} → ℕ → Result A E → List ℕ → List ℕ → List ℕ → Type 0
-Placed size (Ok done) old piece new = (length old + length piece ≤ size) × (new ≡ old ++ piece)
-Placed size (Err full) old piece new = (size < length old + length piece) × (new ≡ old)
+-- Placed r old at piece new: where the piece fits into old from place `at` on, it stands there in new, every other byte
+-- is as it was, and r is the place after it; where it does not, r is none and every byte is as it was.
+abbrev pub Placed : Option ℕ → List ℕ → ℕ → List ℕ → List ℕ → Type 0
+Placed (Some end) old at piece new =
+    (end ≡ at + length piece) × (end ≤ length old) × (new ≡ take at old ++ (piece ++ drop end old))
+Placed None old at piece new = (length old < at + length piece) × (new ≡ old)

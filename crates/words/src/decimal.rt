@@ -1,16 +1,32 @@
 // Writes numbers in base ten.
 ghost use Rattle.std.specs.Fmt.{signed_decimal};
 ghost use Rattle.words.specs.Placed.{Placed};
+ghost use Rattle.words.specs.Pushed.{Pushed};
 
 use arrayvec::{ArrayVec, CapacityError};
 use itoa::Buffer;
 
+// Writes a number from `at` on and answers the place after it, or leaves all bytes as they were where it does not fit.
+// `out` and `at` side by side: this is for bytes that a caller lends, and a page serves only those who append.
+pub fn put_number(out: &mut [u8], at: usize, value: i32) -> Option<usize>
+    ensures { Placed result out.old at (signed_decimal value) out.new }
+{
+    let mut buffer = Buffer::new();
+    let text = buffer.format(value).as_bytes();
+    let end = at.checked_add(text.len())?;
+    if end > out.len() {
+        return None;
+    }
+    out[at..end].copy_from_slice(text);
+    Some(end)
+}
+
 // Writes a number after what stands on a page, or leaves the page as it was where it does not fit.
-pub fn put_number<const N: usize>(
+pub fn push_number<const N: usize>(
     page: &mut ArrayVec<u8, N>,
     value: i32,
 ) -> Result<(), CapacityError>
-    ensures { Placed N result page.old.items (signed_decimal value) page.new.items }
+    ensures { Pushed N result page.old.items (signed_decimal value) page.new.items }
 {
     let mut buffer = Buffer::new();
     let text = buffer.format(value);

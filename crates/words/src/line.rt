@@ -41,7 +41,7 @@ fn values(kinds: &[Kind], blocks: u8, rest: Option<&[u8]>) -> Result<Operands, F
         match operand(*kind, blocks, word) {
             Ok(x) => numbers.push(x),
             Err(Flaw::Range) => in_range = Err(Flaw::Range),
-            Err(Flaw::Form) => return Err(Flaw::Form),
+            Err(form) => return Err(form),
         }
         left = more;
     }

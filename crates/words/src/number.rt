@@ -13,7 +13,8 @@ const FAR: u64 = 1 << 32;
 // How many numbers of 32 bits are not negative.
 const HALF: u64 = 1 << 31;
 
-// The number that digits write, with leading zeros or without, or `FAR` if it is more.
+// The number that digits write, with leading zeros or without, or `FAR` if it is more. Digit by digit: std's `parse`
+// refuses a number past a u64, which here is `FAR`, as it does a byte that is no digit.
 fn scan(digits: &[u8]) -> Option<u64>
     ensures { result ≡ (if all_ascii_digits digits.now then Some (min (value digits.now) (2 ^ 32)) else None) }
 {
@@ -65,7 +66,7 @@ fn minus(digits: &[u8]) -> Result<i32, Flaw>
 {
     let size = number(digits).filter(|n| *n != 0);
     let n = within(size, 0..HALF + 1)?;
-    // `as`, for the same reason; HALF itself has no i32 before the minus sign.
+    // `as`, twice for the same reason. The sign is put on as an i64, since 2^31 is no i32 and -2^31 is one.
     Ok((-(n as i64)) as i32)
 }
 

@@ -92,7 +92,7 @@ const NODES: [NodeForm; 14] = [
 ];
 
 // The word that a node's line begins with. By the verb's place (`as`), since the rows stand in the order of the verbs; a
-// search for the row would be no plainer.
+// search for the row would be no plainer, and a `match` for the name and one for the kinds would be two tables.
 pub fn name(verb: Verb) -> &'static [u8]
     ensures { result.now ≡ name_of verb }
 {

@@ -146,9 +146,6 @@ register_is r = same_register (register r.index) r (mod-eq_of_lt r.ok)
 slot_is : (s : Slot) → slot s.index ≡ s
 slot_is s = same_slot (slot s.index) s (mod-eq_of_lt s.ok)
 
-block_is : (t : ℕ) → t < 256 → t % 256 ≡ t
-block_is t h = mod-eq_of_lt h
-
 reg_in : (r : Register) → from_to 0 registers (pos r.index) ≡ true
 reg_in r = in_range 0 registers r.index (omega arith) r.ok
 
@@ -192,9 +189,13 @@ module _ (n : ℕ) (b : n ≤ most_blocks) where
   middle_line (Put x) f = by_row n b middle_rows 19 put_row (pos x.index ∷ []) _ refl refl refl (omega arith) (reg_in x, tt) (ap Put (register_is x))
 
   pub last_line : (l : Last) → Below n l → Line n last_rows 19 (last_text l) l
-  last_line (Go t) f = by_row n b last_rows 19 go_row (pos t ∷ []) _ refl refl refl (omega arith) (in_range 0 n t (omega arith) f, tt) (ap Go (block_is t (omega arith)))
+  last_line (Go t) f =
+      let small : t < 256 = omega arith in
+      by_row n b last_rows 19 go_row (pos t ∷ []) _ refl refl refl (omega arith) (in_range 0 n t (omega arith) f, tt) (ap Go (mod-eq_of_lt small))
   last_line (If x t u) f =
-      by_row n b last_rows 19 if_row (pos x.index ∷ pos t ∷ pos u ∷ []) _ refl refl refl (omega arith) (reg_in x, (in_range 0 n t (omega arith) f.0, (in_range 0 n u (omega arith) f.1, tt))) (λ i. If (register_is x i) (block_is t (omega (arith, f.0)) i) (block_is u (omega (arith, f.1)) i))
+      let then_small : t < 256 = omega (arith, f.0) in
+      let other_small : u < 256 = omega (arith, f.1) in
+      by_row n b last_rows 19 if_row (pos x.index ∷ pos t ∷ pos u ∷ []) _ refl refl refl (omega arith) (reg_in x, (in_range 0 n t (omega arith) f.0, (in_range 0 n u (omega arith) f.1, tt))) (λ i. If (register_is x i) (mod-eq_of_lt then_small i) (mod-eq_of_lt other_small i))
   last_line (End x) f = by_row n b last_rows 19 end_row (pos x.index ∷ []) _ refl refl refl (omega arith) (reg_in x, tt) (ap End (register_is x))
 
 pub header_line : (n : ℕ) → 1 ≤ n → n ≤ most_blocks → Line 0 (header_row ∷ []) 19 (header_text n) n

@@ -1,6 +1,6 @@
 -- Writing a whole that falls into pieces, one after another.
-use Rattle.std.proofs.Common.{◌≡◌, ℕ, ◌+◌, ◌<◌, List, [], ◌∷◌, ◌++◌, length, ℤ, Ok, Err, Result, sym, refl, ap, ◌∙◌, append_assoc, append-nil, arith, length-append}
-use Rattle.std.specs.Result.{IsErr}
+use Rattle.std.proofs.Common.{◌≡◌, ℕ, ◌+◌, ◌<◌, ◌≤◌, List, [], ◌∷◌, ◌++◌, length, ℤ, Ok, Err, Result, sym, refl, ap, ◌∙◌, append_assoc, append-nil, arith, length-append}
+use Rattle.std.specs.Result.{IsErr, IsOk}
 use mathlib.Core.Logic.{◌⊎◌, inl, inr}
 use Rattle.words.specs.declared.kind.Kind.{Kind}
 use Rattle.words.specs.Words.{spaced}
@@ -34,6 +34,11 @@ module _ {old whole now left : List ℕ} (s : Left old whole now left) where
   -- nothing is left
   pub left_none : left ≡ [] → now ≡ old ++ whole
   left_none e = sym (append-nil now) ∙ ap (λ l. now ++ l) (sym e) ∙ s.splits
+
+-- where there is room for the whole, it is written
+pub wrote_all : {A E : Type 0} (r : Result A E) (old whole new : List ℕ) → length old + length whole ≤ most_bytes → Wrote r old whole new → IsOk r
+wrote_all (Ok done) old whole new room w = refl
+wrote_all (Err full) old whole new room w = absurd (omega (arith, room, w))
 
 -- the words end with the kinds or with the numbers
 pub spaced_end : (ks : List Kind) (vs : List ℤ) → (ks ≡ []) ⊎ (vs ≡ []) → spaced ks vs ≡ []

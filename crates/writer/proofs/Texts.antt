@@ -1,6 +1,6 @@
 -- The text of a script, line after line.
 use Rattle.std.proofs.Common.{◌≡◌, ℕ, suc, ◌+◌, ◌<◌, ◌≤◌, List, [], ◌∷◌, ◌++◌, length, get_or, drop, sym, refl, ap, ◌∙◌, append_assoc, add-one}
-use Rattle.std.proofs.lemmas.List.{drop_more, drop_all}
+use Rattle.std.proofs.lemmas.List.{drop_more}
 use Rattle.script.specs.declared.node.Middle.{Middle}
 use Rattle.script.specs.Run.{Block, Program}
 use Rattle.script.specs.declared.blocks.Blocks.{Blocks}
@@ -14,9 +14,6 @@ line_splits l rest = sym (append_assoc l (10 ∷ []) rest)
 pub middles_step : (ms : List Middle) (i : ℕ) (m : Middle) → i < length ms → m ≡ get_or ms i m → middles_text (drop i ms) [] ≡ (middle_text m ++ 10 ∷ []) ++ middles_text (drop (i + 1) ms) []
 middles_step ms i m h e =
     ap (λ l. middles_text l []) (drop_more ms i m h ∙ ap (λ x. x ∷ drop (i + 1) ms) (sym e)) ∙ line_splits (middle_text m) (middles_text (drop (i + 1) ms) [])
-
-pub middles_end : (ms : List Middle) (i : ℕ) → length ms ≤ i → middles_text (drop i ms) [] ≡ []
-middles_end ms i h = ap (λ l. middles_text l []) (drop_all i ms h)
 
 -- what is left of the blocks of a script
 abbrev pub blocks_left : Blocks → Program

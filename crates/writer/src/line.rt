@@ -12,7 +12,8 @@ use words::kind::Kind;
 use words::table::{kinds, name};
 use words::verb::Verb;
 
-// The words after the first, and the line feed.
+// The words after the first, and the line feed. The kinds and the numbers come side by side, since the kinds are a row of
+// the table and a vector of pairs would have to be made; `put_operands` zips them.
 fn put_rest(page: &mut Page, kinds: &[Kind], values: &[i32]) -> Result<(), CapacityError>
     ensures { Wrote result page.old.items (spaced kinds.now values.now ++ 10 ∷ []) page.new.items }
 {

@@ -8,7 +8,7 @@ ghost use Rattle.writer.specs.Wrote.{Wrote};
 
 use arrayvec::{ArrayVec, CapacityError};
 use script::limits::MOST_BYTES;
-use words::decimal::put_number;
+use words::decimal::push_number;
 use words::kind::Kind;
 
 // A page that every text fits onto.
@@ -19,7 +19,7 @@ pub(crate) fn put_lettered(page: &mut Page, letter: u8, value: i32) -> Result<()
     ensures { Wrote result page.old.items (letter ∷ signed_decimal value) page.new.items }
 {
     page.try_extend_from_slice(&[letter])?;
-    put_number(page, value)
+    push_number(page, value)
 }
 
 // A word of a kind.
@@ -30,7 +30,7 @@ fn put_word(page: &mut Page, kind: Kind, value: i32) -> Result<(), CapacityError
         Kind::RegisterWord => put_lettered(page, b'r', value),
         Kind::BlockWord => put_lettered(page, b'b', value),
         Kind::SlotWord | Kind::NumberWord | Kind::SizeWord | Kind::CountWord => {
-            put_number(page, value)
+            push_number(page, value)
         }
     }
 }
@@ -43,7 +43,7 @@ fn put_operand(page: &mut Page, kind: Kind, value: i32) -> Result<(), CapacityEr
     put_word(page, kind, value)
 }
 
-// Words of these kinds, each after a space.
+// Words of these kinds, each after a space. Where one list is longer, what is left of it is not written.
 pub(crate) fn put_operands(
     page: &mut Page,
     kinds: &[Kind],

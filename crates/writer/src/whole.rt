@@ -44,8 +44,6 @@ pub fn write(script: &Script, out: &mut [u8]) -> Option<usize>
 {
     script.numbers_fit();
     let mut page = Page::new();
-    let Ok(()) = put_text(&mut page, script) else {
-        unreachable()
-    };
+    put_text(&mut page, script).unwrap();
     copy_out(&page, out)
 }
