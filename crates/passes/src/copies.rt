@@ -42,8 +42,8 @@ fn nothing() -> PlainSources
     }
 }
 
-// The node with each read of a register that has a source replaced by that source. A function for each kind of node, since
-// nodes and pieces of the two kinds are other types.
+// The node with each read of a register that has a source replaced by that source. Last nodes have a function of their own,
+// since they and their pieces are other types.
 fn middle_from(sources: &Sources, node: Middle) -> Option<MiddlePiece>
     ensures { middle_piece result ≡ from_sources node sources.now.row }
 {
