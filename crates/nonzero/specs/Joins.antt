@@ -1,11 +1,11 @@
 -- The laws of the lattice of marks. They are proofs, and stand here because the impl in src/ gives them as its
 -- `lawful`.
-use Rattle.std.specs.Prelude.{◌≡◌, ℕ, ◌<◌, Bool, true, false, not, ◌&&◌, length, refl}
-use Rattle.std.proofs.Common.{sym, ◌∙◌, arith}
+use Rattle.std.specs.Prelude.{◌≡◌, ℕ, ◌<◌, Bool, true, false, not, ◌&&◌, refl}
+use Rattle.std.proofs.Common.{sym, ◌∙◌}
 use Rattle.std.proofs.lemmas.Bool.{both_ways, and_parts, and_right, not-true}
 use Rattle.script.specs.Limits.{registers}
 use Rattle.pass.specs.Lattices.{LatticeLaws}
-use Rattle.pass.proofs.Rows.{length_row, get_or_row, row_all, some_false, some_true, fewer}
+use Rattle.pass.proofs.Rows.{length_row, get_or_row, row_all, some_false, row_fewer}
 use Rattle.nonzero.specs.declared.Marks.{Marks}
 use Rattle.nonzero.specs.Marks.{knows, Valid, Cautious, how_many, nothing, kept, lost, meet}
 
@@ -25,14 +25,13 @@ module _ (old new : Marks) where
       let all_kept = row_all (kept old new) old.known false v (λ k h. stays (knows old k) (knows new k) (none_lost k h)) in
       λ i. record { known = sym all_kept i }
 
+  gone : (i : ℕ) → lost old new i ≡ true → (knows old i ≡ true) × (kept old new i ≡ false)
+  gone i e =
+      let u = and_parts (knows old i) (not (knows new i)) e in
+      (u.0, and_right (knows old i) (knows new i) (not-true (knows new i) u.1))
+
   falls : Valid old → (meet old new).1 ≡ true → how_many (meet old new).0 < how_many old
-  falls v e =
-      let n = length_row (kept old new) in
-      let t = some_true (lost old new) registers e in
-      let u = and_parts (knows old t.0) (not (knows new t.0)) t.2 in
-      let b : t.0 < length (meet old new).0.known = omega (arith, n, t.1) in
-      fewer (λ b. b) false old.known (meet old new).0.known (v ∙ sym n) (λ k h d. (in_both k (omega (arith, n, h)) d).0) t.0 b u.0
-      (get_or_row (kept old new) t.0 false t.1 ∙ and_right (knows old t.0) (knows new t.0) (not-true (knows new t.0) u.1))
+  falls v e = row_fewer (λ b. b) false old.known (kept old new) (lost old new) v (λ k h q. (and_parts (knows old k) (knows new k) q).0) (λ k h. gone k) e
 
 pub lattice : LatticeLaws Valid Cautious how_many nothing meet
 lattice =

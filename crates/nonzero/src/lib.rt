@@ -17,12 +17,12 @@ use script::register::Register;
 use std::array;
 
 // For each register whether it is known not to hold 0.
-#[derive(Clone, Copy, PartialEq, Eq)]
+#[derive(Clone, Copy, Debug, PartialEq, Eq)]
 pub struct Marks {
     pub known: [bool; EACH_REGISTER],
 }
 
-#[derive(Clone, Copy)]
+#[derive(Clone, Copy, Debug)]
 pub struct NonZero;
 
 impl Marks {
@@ -64,6 +64,7 @@ impl Lattice for NonZero {
     }
 
     fn join(&self, old: Marks, new: Marks) -> (Marks, bool) {
+        // By index, since arrays have no `zip`.
         let both = Marks {
             known: array::from_fn(|i| old.known[i] & new.known[i]),
         };

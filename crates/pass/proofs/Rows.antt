@@ -36,6 +36,8 @@ module _ {F X : Type 0} (g : Mut F (ℕ × Unit {0}) X) (f : F) (h : ℕ → X) 
   pub row_made : (xs : List X) (d : X) → IsFromFnResult g f xs registers → xs ≡ row h
   row_made xs d made = row_all h xs d made.long (λ k b. made_from xs registers 0 made.each k d (omega arith) (omega (arith, b)))
 
+-- For authors of passes whose join is a loop: `some_none`, `some_next` and `write_more` are its steps.
+
 pub some_none : (p : ℕ → Bool) → some p 0 ≡ false
 unfolding some
 some_none p = refl
@@ -62,14 +64,6 @@ some_true p (suc n) e =
     ⊎_elim (λ (q : p n ≡ true). (n, omega arith, q))
     (λ (q : some p n ≡ true). let r = some_true p n q in (r.0, omega (arith, r.1), r.2))
     (or_cases (p n) (some p n) e)
-
-pub every_none : (p : ℕ → Bool) → every p 0 ≡ true
-unfolding every
-every_none p = refl
-
-pub every_more : (p : ℕ → Bool) (i : ℕ) → every p i ≡ true → p i ≡ true → every p (i + 1) ≡ true
-unfolding every
-every_more p i a e = rw add-one (and_from (p i) (every p i) e a)
 
 pub every_true : (p : ℕ → Bool) (n : ℕ) → every p n ≡ true → (k : ℕ) → k < n → p k ≡ true
 unfolding every
@@ -128,3 +122,14 @@ module _ {X : Type 0} (p : X → Bool) (d : X) where
       let r = fewer xs ys (omega arith) (λ k b. h (suc k) (omega arith)) k (omega arith) s t in
       let o = one_less (p x) (p y) (h 0 (omega arith)) in
       omega (arith, sum_by-cons (λ z. cond (p z) 1 0) x xs, sum_by-cons (λ z. cond (p z) 1 0) y ys)
+
+-- A row that loses something of another: the test passes in it only where it passes there, and somewhere no more.
+pub row_fewer : {X : Type 0} (p : X → Bool) (d : X) (xs : List X) (f : ℕ → X) (lost : ℕ → Bool) → length xs ≡ registers → ((k : ℕ) → k < registers → p (f k) ≡ true → p (get_or xs k d) ≡ true) → ((k : ℕ) → k < registers → lost k ≡ true → (p (get_or xs k d) ≡ true) × (p (f k) ≡ false)) → some lost registers ≡ true → count_by p (row f) < count_by p xs
+row_fewer p d xs f lost l kept gone e =
+    let n = length_row f in
+    let t = some_true lost registers e in
+    let u = gone t.0 t.1 t.2 in
+    fewer p d xs (row f) (l ∙ sym n)
+    (λ k h q. let b : k < registers = omega (arith, n, h) in kept k b (ap p (sym (get_or_row f k d b)) ∙ q))
+    t.0 (omega (arith, n, t.1)) u.0
+    (ap p (get_or_row f t.0 d t.1) ∙ u.1)

@@ -4,13 +4,13 @@
 --   last_piece p     the nodes proposed in place of a last node
 use Rattle.std.specs.Prelude.{List, Option}
 use Rattle.std.specs.Option.{option_map}
-use Rattle.arrayvec.specs.ArrayVec.{ArrayVec}
 use Rattle.script.specs.declared.node.Middle.{Middle}
 use Rattle.script.specs.declared.node.Last.{Last}
+use Rattle.pass.specs.declared.piece.MiddlePiece.{MiddlePiece}
 use Rattle.pass.specs.declared.piece.LastPiece.{LastPiece}
 
-abbrev pub middle_piece : Option (ArrayVec Middle) → Option (List Middle)
-middle_piece p = option_map (λ piece. piece.items) p
+abbrev pub middle_piece : Option MiddlePiece → Option (List Middle)
+middle_piece p = option_map (λ piece. piece.middles.items) p
 
 abbrev pub last_piece : Option LastPiece → Option (List Middle × Last)
 last_piece p = option_map (λ piece. (piece.middles.items, piece.last)) p

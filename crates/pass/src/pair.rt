@@ -8,7 +8,7 @@ use crate::lattice::Lattice;
 use crate::piece::{LastPiece, MiddlePiece};
 use script::node::{Last, Middle};
 
-#[derive(Clone, Copy)]
+#[derive(Clone, Copy, Debug)]
 pub struct Pair<A, B> {
     pub first: A,
     pub second: B,

@@ -5,22 +5,44 @@ use arrayvec::ArrayVec;
 use script::node::{Last, Middle};
 
 // In place of a middle node: 0 to 4 middle nodes.
-pub type MiddlePiece = ArrayVec<Middle, 4>;
+#[derive(Clone, Debug, PartialEq, Eq, Drop)]
+pub struct MiddlePiece {
+    pub middles: ArrayVec<Middle, 4>,
+}
 
 // In place of a last node: 0 to 4 middle nodes, and a last node.
-#[derive(Debug, PartialEq, Eq, Drop)]
+#[derive(Clone, Debug, PartialEq, Eq, Drop)]
 pub struct LastPiece {
     pub middles: ArrayVec<Middle, 4>,
     pub last: Last,
 }
 
-// The piece that is this one node.
-pub fn one(node: Middle) -> MiddlePiece
-    ensures { result.items ≡ node ∷ [] }
+// The same nodes once more. (`clone` answers a Result, and this can't fail.)
+fn copied(middles: &ArrayVec<Middle, 4>) -> ArrayVec<Middle, 4>
+    ensures { result.items ≡ middles.now.items }
 {
-    let mut piece = ArrayVec::new();
-    piece.push(node);
-    piece
+    let mut copy = ArrayVec::new();
+    copy.try_extend_from_slice(middles.as_slice()).unwrap();
+    copy
+}
+
+impl MiddlePiece {
+    // The piece that is this one node.
+    pub fn one(node: Middle) -> MiddlePiece
+        ensures { result.middles.items ≡ node ∷ [] }
+    {
+        let mut middles = ArrayVec::new();
+        middles.push(node);
+        MiddlePiece { middles }
+    }
+
+    // The same piece once more. It can't fail, where `clone` answers a Result.
+    pub fn copy(&self) -> MiddlePiece
+        ensures { result.middles.items ≡ self.now.middles.items }
+    {
+        let middles = copied(&self.middles);
+        MiddlePiece { middles }
+    }
 }
 
 impl LastPiece {
@@ -32,6 +54,17 @@ impl LastPiece {
         LastPiece {
             middles: ArrayVec::new(),
             last: node,
+        }
+    }
+
+    // The same piece once more. It can't fail, where `clone` answers a Result.
+    pub fn copy(&self) -> LastPiece
+        ensures middles { result.middles.items ≡ self.now.middles.items }
+        ensures last { result.last ≡ self.now.last }
+    {
+        LastPiece {
+            middles: copied(&self.middles),
+            last: self.last,
         }
     }
 }

@@ -2,3 +2,4 @@ pub mod Copied
 pub mod Joins
 pub mod Known
 pub mod Links
+pub mod Options

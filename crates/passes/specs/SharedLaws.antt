@@ -1,17 +1,17 @@
 -- What two facts have in common, each of them has; where nothing is lost it is all that the first has, and otherwise it is
 -- less. They are proofs, and stand here for the laws of the two lattices.
 use Rattle.std.specs.Prelude.{◌≡◌, ℕ, ◌<◌, Bool, true, false, cond, not, List, length, is_some, Some, None, Option, count_by, refl}
-use Rattle.std.proofs.Common.{sym, ap, subst, ◌∙◌, arith}
+use Rattle.std.proofs.Common.{sym, ap, subst, ◌∙◌}
 use Rattle.std.proofs.lemmas.Bool.{both_ways, and_parts, not-true, cond_both}
 use Rattle.std.proofs.lemmas.Option.{cond_some}
 use Rattle.script.specs.Limits.{registers}
 use Rattle.pass.proofs.Proposals.{no_piece}
-use Rattle.pass.proofs.Rows.{length_row, get_or_row, row_all, some_false, some_true, fewer}
+use Rattle.pass.proofs.Rows.{get_or_row, row_all, some_false, row_fewer}
 use Rattle.passes.specs.Shared.{at, both, drops, shared, lost, common, differ}
 
 module _ {X : Type 0} (same : X → X → Bool) where
   -- what holds of none and of the first holds of both
-  both_keeps : (P : Option X → Type 0) → P None → (a b : Option X) → P a → P (both same a b)
+  pub both_keeps : (P : Option X → Type 0) → P None → (a b : Option X) → P a → P (both same a b)
   both_keeps P n None b p = p
   both_keeps P n (Some a) None p = n
   both_keeps P n (Some a) (Some b) p = cond_both (same a b) (Some a) None P (λ q. p) (λ q. n)
@@ -37,6 +37,9 @@ module _ {X : Type 0} (same : X → X → Bool) where
   some_left None b q = q
   some_left (Some a) b q = refl
 
+  dropped : (a b : Option X) → drops same a b ≡ true → (is_some a ≡ true) × (is_some (both same a b) ≡ false)
+  dropped a b e = let u = and_parts (is_some a) (not (is_some (both same a b))) e in (u.0, not-true (is_some (both same a b)) u.1)
+
   -- ---- rows
 
   module _ (r q : List (Option X)) where
@@ -56,12 +59,4 @@ module _ {X : Type 0} (same : X → X → Bool) where
     unchanged l e = sym (row_all (shared same r q) r None l (λ k h. undropped (at r k) (at q k) (some_false (lost same r q) registers e k h)))
 
     pub falls : length r ≡ registers → differ same r q ≡ true → count_by is_some (common same r q) < count_by is_some r
-    falls l e =
-        let n = length_row (shared same r q) in
-        let t = some_true (lost same r q) registers e in
-        let u = and_parts (is_some (at r t.0)) (not (is_some (shared same r q t.0))) t.2 in
-        let b : t.0 < length (common same r q) = omega (arith, n, t.1) in
-        fewer is_some None r (common same r q) (l ∙ sym n)
-        (λ k h d. some_left (at r k) (at q k) (ap is_some (sym (common_at k (omega (arith, n, h)))) ∙ d))
-        t.0 b u.0
-        (ap is_some (common_at t.0 t.1) ∙ not-true (is_some (shared same r q t.0)) u.1)
+    falls l e = row_fewer is_some None r (shared same r q) (lost same r q) l (λ k h. some_left (at r k) (at q k)) (λ k h. dropped (at r k) (at q k)) e

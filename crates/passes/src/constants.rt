@@ -8,19 +8,19 @@ use crate::rows::{self, Row};
 use pass::edge::Edge;
 use pass::forward::ForwardPass;
 use pass::lattice::Lattice;
-use pass::piece::{self, LastPiece, MiddlePiece};
+use pass::piece::{LastPiece, MiddlePiece};
 use script::arithmetic::compute;
 use script::limits::EACH_REGISTER;
 use script::node::{Last, Middle, Operation};
 use script::register::Register;
 
 // For each register its number, where it is known.
-#[derive(Clone, Copy)]
+#[derive(Clone, Copy, Debug, PartialEq, Eq)]
 pub struct Numbers {
     pub row: Row<i32>,
 }
 
-#[derive(Clone, Copy)]
+#[derive(Clone, Copy, Debug)]
 pub struct Constants;
 
 impl Numbers {
@@ -52,7 +52,7 @@ fn sets(to: Register, number: Option<i32>) -> Option<MiddlePiece>
     ensures { middle_piece result ≡ sets_piece to number }
 {
     let value = number?;
-    Some(piece::one(Middle::Set { to, value }))
+    Some(MiddlePiece::one(Middle::Set { to, value }))
 }
 
 // `go`, where the number that is tested is known, or both ways lead to one block. By a match, since there are three cases;

@@ -9,14 +9,14 @@ use crate::sources::Sources;
 use pass::edge::Edge;
 use pass::forward::ForwardPass;
 use pass::lattice::Lattice;
-use pass::piece::{self, LastPiece, MiddlePiece};
+use pass::piece::{LastPiece, MiddlePiece};
 use script::limits::EACH_REGISTER;
 use script::node::{Last, Middle};
 
 // For each register its source: the index of another register, or none. The indices are plain numbers and no `Register`s:
 // facts lie in memory that callers lend, so they are plain records with no invariant in the type. `Sources` is made from
 // the row after a check.
-#[derive(Clone, Copy)]
+#[derive(Clone, Copy, Debug, PartialEq, Eq)]
 pub struct PlainSources {
     pub row: Row<u8>,
 }
@@ -30,7 +30,7 @@ impl From<Sources> for PlainSources {
     }
 }
 
-#[derive(Clone, Copy)]
+#[derive(Clone, Copy, Debug)]
 pub struct Copies;
 
 // No register has a source.
@@ -42,14 +42,15 @@ fn nothing() -> PlainSources
     }
 }
 
-// The node with each read of a register that has a source replaced by that source.
+// The node with each read of a register that has a source replaced by that source. Last nodes have a function of their own,
+// since they and their pieces are other types.
 fn middle_from(sources: &Sources, node: Middle) -> Option<MiddlePiece>
     ensures { middle_piece result ≡ from_sources node sources.now.row }
 {
     match node {
         Middle::Mov { to, from } => {
             let source = sources.of(from)?;
-            Some(piece::one(Middle::Mov { to, from: source }))
+            Some(MiddlePiece::one(Middle::Mov { to, from: source }))
         }
         Middle::Compute {
             operation,
@@ -61,7 +62,7 @@ fn middle_from(sources: &Sources, node: Middle) -> Option<MiddlePiece>
             if a.is_none() && b.is_none() {
                 return None;
             }
-            Some(piece::one(Middle::Compute {
+            Some(MiddlePiece::one(Middle::Compute {
                 operation,
                 to,
                 left: a.unwrap_or(left),
@@ -70,7 +71,7 @@ fn middle_from(sources: &Sources, node: Middle) -> Option<MiddlePiece>
         }
         Middle::Put { from } => {
             let source = sources.of(from)?;
-            Some(piece::one(Middle::Put { from: source }))
+            Some(MiddlePiece::one(Middle::Put { from: source }))
         }
         Middle::Set { .. } | Middle::Get { .. } => None,
     }

@@ -16,7 +16,8 @@ fn both<T: Eq + Copy>(a: Option<T>, b: Option<T>) -> Option<T>
     if a == b { a } else { None }
 }
 
-// What both rows have, and whether this differs from the old row.
+// What both rows have, and whether this differs from the old row: both, since a join of a lattice answers both. (It goes by
+// index, since arrays have no `zip`.)
 pub fn join<T: Eq + Copy>(old: Row<T>, new: Row<T>) -> (Row<T>, bool)
     ensures shared { result.0 ≡ common T.eq old new }
     ensures differs { result.1 ≡ differ T.eq old new }

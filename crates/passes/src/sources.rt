@@ -10,7 +10,7 @@ use script::limits::REGISTERS;
 use script::node::Middle;
 use script::register::Register;
 
-#[derive(Clone, Copy)]
+#[derive(Clone, Copy, Debug, PartialEq, Eq)]
 pub struct Sources {
     pub row: Row<u8>,
     ghost ok: { well row ≡ true },
@@ -60,7 +60,7 @@ impl Sources {
         Some(Register { index })
     }
 
-    // The sources that both have, and whether these are fewer than the old ones.
+    // The sources that both have, and whether these are fewer than the old ones: both, since a join of a lattice answers both.
     pub fn join(&self, new: &Sources) -> (Sources, bool)
         ensures shared { result.0.row ≡ common nat_eq self.now.row new.now.row }
         ensures differs { result.1 ≡ differ nat_eq self.now.row new.now.row }

@@ -1,7 +1,7 @@
 // Nodes of both kinds, as examples offer them to a pass.
 use nodes::{last, middle};
 use pass::forward::ForwardPass;
-use pass::piece::{LastPiece, MiddlePiece, one};
+use pass::piece::{LastPiece, MiddlePiece};
 use script::node::{Last, Middle};
 use std::fmt::Debug;
 use std::test::Fail;
@@ -29,7 +29,7 @@ impl Offered for Middle {
     }
 
     fn alone(self) -> MiddlePiece {
-        one(self)
+        MiddlePiece::one(self)
     }
 
     fn piece<P: ForwardPass>(self, pass: &P, fact: P::Fact) -> Option<MiddlePiece> {

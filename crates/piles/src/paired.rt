@@ -19,14 +19,14 @@ fn which_piece(rt: HostRuntime) -> Result<(), Fail> {
         &rt,
         &both,
         &[
-            ("set r1 4|mov r2 r1", "mov r3 r2", "set r3 4"),
-            ("set r1 4|mov r2 r1", "put r2", "put r1"),
-            ("get r1 0|mov r2 r1", "mov r3 r2", "mov r3 r1"),
-            ("get r1 0|mov r2 r1", "put r1", ""),
+            ("set r1 4|mov r2 r1", "mov r3 r2", Some("set r3 4")),
+            ("set r1 4|mov r2 r1", "put r2", Some("put r1")),
+            ("get r1 0|mov r2 r1", "mov r3 r2", Some("mov r3 r1")),
+            ("get r1 0|mov r2 r1", "put r1", None),
             (
                 "set r1 4|mov r2 r1&set r1 5|mov r2 r1",
                 "mov r3 r2",
-                "mov r3 r1",
+                Some("mov r3 r1"),
             ),
         ],
     )?;
@@ -34,20 +34,20 @@ fn which_piece(rt: HostRuntime) -> Result<(), Fail> {
         &rt,
         &both,
         &[
-            ("set r1 4|mov r2 r1", "if r2 b1 b2", "go b1"),
-            ("get r1 0|mov r2 r1", "if r2 b1 b2", "if r1 b1 b2"),
+            ("set r1 4|mov r2 r1", "if r2 b1 b2", Some("go b1")),
+            ("get r1 0|mov r2 r1", "if r2 b1 b2", Some("if r1 b1 b2")),
             (
                 "get r1 0|mov r2 r1|if r1 b1 b2 second",
                 "if r1 b1 b2",
-                "go b2",
+                Some("go b2"),
             ),
-            ("set r1 4|mov r2 r1", "end r2", "end r1"),
+            ("set r1 4|mov r2 r1", "end r2", Some("end r1")),
         ],
     )?;
     stand::<Middle, _>(
         &rt,
         &pair(Copies, Constants),
-        &[("set r1 4|mov r2 r1", "mov r3 r2", "mov r3 r1")],
+        &[("set r1 4|mov r2 r1", "mov r3 r2", Some("mov r3 r1"))],
     )
 }
 
@@ -62,12 +62,12 @@ fn differs_where_either_half_does(rt: HostRuntime) -> Result<(), Fail> {
 }
 
 const PILE: &[Example] = &[
-    ("set r1 5", "if r1 b1 b2", "go b1"),
-    ("get r1 0|mov r2 r1", "if r2 b1 b2", "if r1 b1 b2"),
-    ("get r1 0|if r1 b1 b2 first", "if r1 b3 b4", "go b3"),
-    ("get r1 0|if r1 b1 b2 second", "if r1 b3 b4", "go b4"),
-    ("get r1 0", "if r1 b3 b4", ""),
-    ("set r1 5&set r1 6", "if r1 b1 b2", "go b1"),
+    ("set r1 5", "if r1 b1 b2", Some("go b1")),
+    ("get r1 0|mov r2 r1", "if r2 b1 b2", Some("if r1 b1 b2")),
+    ("get r1 0|if r1 b1 b2 first", "if r1 b3 b4", Some("go b3")),
+    ("get r1 0|if r1 b1 b2 second", "if r1 b3 b4", Some("go b4")),
+    ("get r1 0", "if r1 b3 b4", None),
+    ("set r1 5&set r1 6", "if r1 b1 b2", Some("go b1")),
 ];
 
 #[test]
@@ -78,5 +78,9 @@ fn piles(rt: HostRuntime) -> Result<(), Fail> {
     stand::<Last, _>(&rt, &other, PILE)?;
     let deep = pair(pair(three, pair(Copies, Copies)), pair(other, three));
     stand::<Last, _>(&rt, &deep, PILE)?;
-    stand::<Middle, _>(&rt, &deep, &[("get r1 0|mov r2 r1", "put r2", "put r1")])
+    stand::<Middle, _>(
+        &rt,
+        &deep,
+        &[("get r1 0|mov r2 r1", "put r2", Some("put r1"))],
+    )
 }

@@ -10,9 +10,9 @@ use script::node::{Last, Middle};
 use std::process::Abort;
 use std::test::Fail;
 
-// The ways, the node that is offered after them, and the one node that must be proposed for it, or nothing where there
-// must be no piece.
-pub type Example = (&'static str, &'static str, &'static str);
+// The ways, the node that is offered after them, and the one node that must be proposed for it, or none where there must
+// be no piece.
+pub type Example = (&'static str, &'static str, Option<&'static str>);
 
 // What is known after one more line of a way.
 fn beyond<P: ForwardPass>(pass: &P, line: &str, fact: P::Fact) -> Result<P::Fact, Fail> {
@@ -48,11 +48,11 @@ fn after_ways<P: ForwardPass>(pass: &P, ways: &str) -> Result<P::Fact, Fail> {
 }
 
 // The piece that an example expects.
-fn expected<N: Offered>(node: &str) -> Result<Option<N::Piece>, Fail> {
-    if node.is_empty() {
-        return Ok(None);
+fn expected<N: Offered>(node: Option<&str>) -> Result<Option<N::Piece>, Fail> {
+    match node {
+        Some(line) => Ok(Some(N::named(line)?.alone())),
+        None => Ok(None),
     }
-    Ok(Some(N::named(node)?.alone()))
 }
 
 // Whether a pass proposes for each node what it must.
@@ -63,7 +63,7 @@ pub fn stand<N: Offered, P: ForwardPass>(
 ) -> Result<(), Fail> {
     for (ways, offered, proposed) in examples {
         let piece = N::named(offered)?.piece(pass, after_ways(pass, ways)?);
-        assert_eq!(rt; piece, expected::<N>(proposed)?, "{offered}");
+        assert_eq!(rt; piece, expected::<N>(*proposed)?, "{offered}");
     }
     Ok(())
 }
