@@ -6,23 +6,24 @@ use Rattle.script.specs.Model.{program_of}
 use Rattle.writer.proofs.Formed.{few_blocks}
 use Rattle.shorten.specs.Reports.{count_line, counts_from}
 use Rattle.shorten.proofs.Counts.{blocks_left, counts_first}
+use Rattle.shorten.proofs.report.CountsDisplay.fmt.Given.{Over}
 use Rattle.shorten.proofs.report.CountsDisplay.fmt.Goals as goal
+
+-- at the loop no block has been counted, and all are left
+begun : (g : Over) (c : goal.After-into_iter-i-iterator g) → (enumerate_count c.into_iter-i-iterator.result ≡ 0) × (blocks_left (enumerate_source c.into_iter-i-iterator.result) ≡ program_of c.args.self.now.0.now)
+begun g c =
+    let it = c.into_iter-i-iterator.ensures.into_iter_gives in (
+      ap enumerate_count it ∙ c.enumerate-i-items.ensures.count,
+      ap (λ e. blocks_left (enumerate_source e)) it ∙ ap blocks_left c.enumerate-i-items.ensures.source ∙ c.blocks-2.ensures,
+    )
 
 pub loop-i-init : goal.loop-i-init
 loop-i-init g c = λ plain.
-    let it = c.into_iter-i-iterator.ensures.into_iter_gives in
-    let none : enumerate_count c.into_iter-i-iterator.result ≡ 0 = ap enumerate_count it ∙ c.enumerate-i-items.ensures.count in
-    let all : blocks_left (enumerate_source c.into_iter-i-iterator.result) ≡ program_of c.args.self.now.0.now =
-    ap (λ e. blocks_left (enumerate_source e)) it ∙ ap blocks_left c.enumerate-i-items.ensures.source ∙ c.blocks-2.ensures in
-    ([], record { wrote = writes_in_calls_nil _ _; plain = plain }, λ j. counts_from (none j) (all j))
+    ([], record { wrote = writes_in_calls_nil _ _; plain = plain }, λ j. counts_from ((begun g c).0 j) ((begun g c).1 j))
 
 pub loop-i-init-derived : goal.loop-i-init-derived
 loop-i-init-derived g c =
-    let it = c.into_iter-i-iterator.ensures.into_iter_gives in
-    let none : enumerate_count c.into_iter-i-iterator.result ≡ 0 = ap enumerate_count it ∙ c.enumerate-i-items.ensures.count in
-    let all : blocks_left (enumerate_source c.into_iter-i-iterator.result) ≡ program_of c.args.self.now.0.now =
-    ap (λ e. blocks_left (enumerate_source e)) it ∙ ap blocks_left c.enumerate-i-items.ensures.source ∙ c.blocks-2.ensures in
-    ((tt, tt, inl (omega (arith, none, ap length all, few_blocks c.args.self.now.0.now))), tt)
+    ((tt, tt, inl (omega (arith, (begun g c).0, ap length (begun g c).1, few_blocks c.args.self.now.0.now))), tt)
 
 pub loop-i-preserved : goal.loop-i-preserved
 loop-i-preserved g c = λ plain.
