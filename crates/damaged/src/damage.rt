@@ -9,7 +9,8 @@ use std::alloc::{AllocError, Global};
 use std::process::Abort;
 use std::test::Fail;
 
-// The fault that a text must have. A number by a rule of the project: docs/TEXT.md knows a fault by it.
+// The fault that a text must have. A number by a rule of the project: docs/TEXT.md knows a fault by it. The layer stands
+// beside it, though it follows from it, since the rows say all that people see, each by itself.
 #[derive(Clone, Copy, Debug, PartialEq, Eq)]
 pub struct Wanted {
     pub number: u8,
@@ -18,6 +19,7 @@ pub struct Wanted {
     pub place: usize,
 }
 
+// In tests alone, so it has no clause.
 impl From<Fault> for Wanted {
     fn from(fault: Fault) -> Wanted {
         Wanted {

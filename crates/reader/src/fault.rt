@@ -26,15 +26,24 @@ pub enum Layer {
     Contents,
 }
 
+impl Layer {
+    // Its name, as people are told of it.
+    pub fn name(self) -> &'static str
+        ensures { result.now ≡ layer_name self }
+    {
+        match self {
+            Layer::Line => "line",
+            Layer::Word => "word",
+            Layer::Contents => "contents",
+        }
+    }
+}
+
 impl fmt::Display for Layer {
     ghost output = { λ l. Some (layer_name l) };
 
     fn fmt<W: fmt::Write>(&self, f: &mut fmt::Formatter<W>) -> fmt::Result {
-        f.write_str(match self {
-            Layer::Line => "line",
-            Layer::Word => "word",
-            Layer::Contents => "contents",
-        })
+        f.write_str(self.name())
     }
 }
 
@@ -49,7 +58,8 @@ pub enum Due {
     MiddleNode,
     // the line of a last node
     LastNode,
-    // none: the text is to end
+    // No line: the text is to end. A name of its own, since this is told of beside the others; an `Option<Due>` around
+    // them would be no plainer.
     Nothing,
 }
 

@@ -1,2 +1,3 @@
 pub mod Loaded
+pub mod Reports
 pub mod Sources

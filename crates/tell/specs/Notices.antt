@@ -7,7 +7,11 @@
 --                      what was expected, and the place p where the line begins
 --   told n f           the line for the fault f of a text n
 --   told_long n        the line for a text n that is too long to be read
---   told_by n r        the line for a text n that is turned away for the reason r
+--   line_told r        of a reason to turn a text away: the line, 0 for a text that was not read
+--   number_told r      the number of the question
+--   layer_told r       the layer that put it
+--   expected_told r    what was expected
+--   place_told r       the place where the line begins
 --   line_of n          the line of a notice
 use Rattle.std.specs.Prelude.{ℕ, List, ◌++◌, codes, decimal}
 use Rattle.words.specs.declared.flaw.Flaw.TheVariants.{Form, Range}
@@ -53,9 +57,26 @@ told name f =
 abbrev pub told_long : List ℕ → List ℕ
 told_long name = line name 0 2 (codes "bench") (codes "expected a text of at most 16384 bytes") 0
 
-abbrev pub told_by : List ℕ → Reason → List ℕ
-told_by name TooLong = told_long name
-told_by name (Faulty f) = told name f
+abbrev pub line_told : Reason → ℕ
+line_told TooLong = 0
+line_told (Faulty f) = f.line
+
+abbrev pub number_told : Reason → ℕ
+number_told TooLong = 2
+number_told (Faulty f) = number_of f.question
+
+abbrev pub layer_told : Reason → List ℕ
+layer_told TooLong = codes "bench"
+layer_told (Faulty f) = layer_name (layer_of f.question)
+
+abbrev pub expected_told : Reason → List ℕ
+expected_told TooLong = codes "expected a text of at most 16384 bytes"
+expected_told (Faulty f) = expected_of f.question f.due
+
+abbrev pub place_told : Reason → ℕ
+place_told TooLong = 0
+place_told (Faulty f) = f.place
 
 abbrev pub line_of : Notice → List ℕ
-line_of n = told_by n.name.now n.reason
+line_of n =
+    line n.name.now (line_told n.reason) (number_told n.reason) (layer_told n.reason) (expected_told n.reason) (place_told n.reason)

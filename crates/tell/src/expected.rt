@@ -5,6 +5,9 @@ ghost use Rattle.tell.specs.Notices.{form_of, range_of, expected_of};
 use reader::fault::{Due, Fault, Question};
 use words::flaw::Flaw;
 
+// What was expected where nothing more was due, and where the text did not end.
+const THE_END: &str = "expected the text to end here";
+
 // The form of the line that is due, and the ranges of its numbers. Where nothing is due, the text is to end.
 fn form_and_range(due: Due) -> (&'static str, &'static str)
     ensures form { result.0.now ≡ form_of due }
@@ -24,10 +27,7 @@ fn form_and_range(due: Due) -> (&'static str, &'static str)
             "expected a last node: go, if or end",
             "expected registers r0 to r15 and blocks of this script",
         ),
-        Due::Nothing => (
-            "expected the text to end here",
-            "expected the text to end here",
-        ),
+        Due::Nothing => (THE_END, THE_END),
     }
 }
 
@@ -41,6 +41,6 @@ pub(crate) fn expected(fault: Fault) -> &'static str
         Question::Words(Flaw::Form) => form,
         Question::Words(Flaw::Range) => range,
         Question::Total => "expected counts that come to at most 512",
-        Question::Finish => "expected the text to end here",
+        Question::Finish => THE_END,
     }
 }

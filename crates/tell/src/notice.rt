@@ -1,12 +1,12 @@
 // The line that tells of a text that is turned away.
 ghost use Rattle.std.specs.Prelude.{◌≡◌, Some};
-ghost use Rattle.tell.specs.Notices.{line_of, told, told_long};
+ghost use Rattle.tell.specs.Notices.{line_told, number_told, layer_told, expected_told, place_told, line_of, told, told_long};
 
 use super::expected::expected;
 use reader::fault::Fault;
 use std::fmt;
 
-// Why a text is turned away.
+// Why a text is turned away. An `Option<Fault>` would be no plainer: its `None` would read as if there were no reason.
 #[derive(Clone, Copy, Debug, PartialEq, Eq)]
 pub enum Reason {
     // it is longer than any script, and so was not read
@@ -21,32 +21,6 @@ pub struct Notice<'a> {
     // what the text is called, as by its path
     pub name: &'a str,
     pub reason: Reason,
-}
-
-impl fmt::Display for Notice<'_> {
-    ghost output = { λ n. Some (line_of n) };
-
-    fn fmt<W: fmt::Write>(&self, f: &mut fmt::Formatter<W>) -> fmt::Result {
-        let name = self.name;
-        match self.reason {
-            // no line and no byte of it was looked at: the numbers are 0
-            Reason::TooLong => write!(
-                f,
-                "{name}:0: number 2 (bench): expected a text of at most 16384 bytes (byte 0)"
-            ),
-            Reason::Faulty(fault) => {
-                let line = fault.line;
-                let number = fault.number();
-                let layer = fault.layer();
-                let expected = expected(fault);
-                let place = fault.place;
-                write!(
-                    f,
-                    "{name}:{line}: number {number} ({layer}): {expected} (byte {place})"
-                )
-            }
-        }
-    }
 }
 
 impl<'a> Notice<'a> {
@@ -68,5 +42,72 @@ impl<'a> Notice<'a> {
             name,
             reason: Reason::TooLong,
         }
+    }
+
+    // The line, from 1, or 0 where the text was not read at all.
+    pub fn line(&self) -> usize
+        ensures { result ≡ line_told self.now.reason }
+    {
+        match self.reason {
+            Reason::TooLong => 0,
+            Reason::Faulty(fault) => fault.line,
+        }
+    }
+
+    // The number of the question that was answered No.
+    pub fn number(&self) -> u8
+        ensures { result ≡ number_told self.now.reason }
+    {
+        match self.reason {
+            Reason::TooLong => 2,
+            Reason::Faulty(fault) => fault.number(),
+        }
+    }
+
+    // The layer that put it.
+    pub fn layer(&self) -> &'static str
+        ensures { result.now ≡ layer_told self.now.reason }
+    {
+        match self.reason {
+            Reason::TooLong => "bench",
+            Reason::Faulty(fault) => fault.layer().name(),
+        }
+    }
+
+    // What would have been answered Yes.
+    pub fn expected(&self) -> &'static str
+        ensures { result.now ≡ expected_told self.now.reason }
+    {
+        match self.reason {
+            Reason::TooLong => "expected a text of at most 16384 bytes",
+            Reason::Faulty(fault) => expected(fault),
+        }
+    }
+
+    // The byte where the line begins, from 0, also where the text was not read.
+    pub fn place(&self) -> usize
+        ensures { result ≡ place_told self.now.reason }
+    {
+        match self.reason {
+            Reason::TooLong => 0,
+            Reason::Faulty(fault) => fault.place,
+        }
+    }
+}
+
+impl fmt::Display for Notice<'_> {
+    ghost output = { λ n. Some (line_of n) };
+
+    fn fmt<W: fmt::Write>(&self, f: &mut fmt::Formatter<W>) -> fmt::Result {
+        let name = self.name;
+        let line = self.line();
+        let number = self.number();
+        let layer = self.layer();
+        let expected = self.expected();
+        let place = self.place();
+        write!(
+            f,
+            "{name}:{line}: number {number} ({layer}): {expected} (byte {place})"
+        )
     }
 }
