@@ -1,4 +1,4 @@
--- Lines of one form, and the names of blocks.
+-- The names of blocks.
 use Rattle.std.proofs.Common.{◌≡◌, ℕ, ◌<◌, Bool, true, false, cond, eqb, List, [], ◌∷◌, ℤ, pos, Some, None, Ok, Err, Result, decimal, sym, ap, ◌∙◌, arith, w32, of_z}
 use Rattle.std.specs.Fmt.{signed_decimal}
 use Rattle.std.specs.Result.{MatchResult}
@@ -39,8 +39,3 @@ pub names : (w : List ℕ) (i : ℕ) → i < most_blocks → (o : Result ℤ Fla
     → b ≡ bytes_eq w (98 ∷ decimal i)
 names w i h (Ok x) e b Is k said = said x k ∙ names_ok w i h x e
 names w i h (Err f) e b Is k said = k ∙ sym (names_err w i h f e)
-
-module _ {A : Type 0} (n : ℕ) (r : Row A) (l : List ℕ) where
-  pub row_named : (b : Bool) → b ≡ bytes_eq (cut 32 l).0 r.name → cond b (made_by r (operands n r.kinds (cut 32 l).1)) (Err Form) ≡ line_as n (r ∷ []) l
-  row_named true e = ap (λ t. follow n (cond t (Some r) None) (cut 32 l).1) e
-  row_named false e = ap (λ t. follow n (cond t (Some r) None) (cut 32 l).1) e

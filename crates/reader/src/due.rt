@@ -34,11 +34,11 @@ impl<'a> Cursor<'a> {
         ensures { (n : ℕ) (rows : List (Row T)) → Computes (FnOnceReturnsAt F.FnOnce read) (line_as n rows) → Gives (due_line due n rows (cursor_of self.old)) result (cursor_of self.new) }
     {
         let start = *self;
-        // It has a clause and stands here, since of a closure that is written into the last call nothing is known.
+        let line = self.next_line(due)?;
+        // In a `let`: written into the call, its clause is not in what `map_err` says here, on the result of a generic `read`.
         let flawed = |flaw|
             ensures { result ≡ fault_at (Question.Words flaw) due (cursor_of start.entry) }
         { start.fault(Question::Words(flaw), due) };
-        let line = self.next_line(due)?;
         read(line).map_err(flawed)
     }
 
