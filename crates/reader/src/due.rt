@@ -42,7 +42,8 @@ impl<'a> Cursor<'a> {
         read(line).map_err(flawed)
     }
 
-    // `blocks N`
+    // `blocks N`. That N is at most 64 is said where it is read, here, and asked where it is used, by `contents` and `body`: a
+    // type for one number would be no plainer.
     pub(crate) fn header(&mut self) -> Result<u8, Fault>
         ensures reads { Gives (due_line Due.Header 0 (header_row ∷ []) (cursor_of self.old)) result (cursor_of self.new) }
         ensures range { IfOk result (λ n. (1 ≤ n) × (n ≤ most_blocks)) }
