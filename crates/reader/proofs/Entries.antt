@@ -1,5 +1,5 @@
--- Lines of one form, and the names of blocks.
-use Rattle.std.proofs.Common.{◌≡◌, ℕ, ◌<◌, Bool, true, false, cond, eqb, List, [], ◌∷◌, ℤ, pos, Some, None, Ok, Err, Result, decimal, sym, ap, ◌∙◌, arith, w32, of_z}
+-- The names of blocks.
+use Rattle.std.proofs.Common.{◌≡◌, ℕ, ◌<◌, Bool, true, false, eqb, List, ◌∷◌, ℤ, pos, Ok, Err, Result, decimal, sym, ap, ◌∙◌, arith, w32, of_z}
 use Rattle.std.specs.Fmt.{signed_decimal}
 use Rattle.std.specs.Result.{MatchResult}
 use Rattle.std.specs.Str.{bytes_eq}
@@ -9,10 +9,8 @@ use Rattle.std.proofs.lemmas.Slice.Eq.{bytes_eq-Decides}
 use Rattle.std.proofs.lemmas.Fmt.{decimal_injective}
 use Rattle.script.specs.Limits.{most_blocks}
 use Rattle.words.specs.declared.flaw.Flaw.{Flaw}
-use Rattle.words.specs.declared.flaw.Flaw.TheVariants.{Form}
 use Rattle.words.specs.declared.kind.Kind.TheVariants.{BlockWord}
-use Rattle.words.specs.Words.{cut, operand, operands, from_to}
-use Rattle.words.specs.Forms.{Row, follow, made_by, line_as}
+use Rattle.words.specs.Words.{operand, from_to}
 use Rattle.words.proofs.Spelt.{operand_is, operand_written, from_to_pos}
 
 same_decimal : (v i : ℕ) → v < most_blocks → i < most_blocks → eqb v i ≡ bytes_eq (decimal v) (decimal i)
@@ -39,8 +37,3 @@ pub names : (w : List ℕ) (i : ℕ) → i < most_blocks → (o : Result ℤ Fla
     → b ≡ bytes_eq w (98 ∷ decimal i)
 names w i h (Ok x) e b Is k said = said x k ∙ names_ok w i h x e
 names w i h (Err f) e b Is k said = k ∙ sym (names_err w i h f e)
-
-module _ {A : Type 0} (n : ℕ) (r : Row A) (l : List ℕ) where
-  pub row_named : (b : Bool) → b ≡ bytes_eq (cut 32 l).0 r.name → cond b (made_by r (operands n r.kinds (cut 32 l).1)) (Err Form) ≡ line_as n (r ∷ []) l
-  row_named true e = ap (λ t. follow n (cond t (Some r) None) (cut 32 l).1) e
-  row_named false e = ap (λ t. follow n (cond t (Some r) None) (cut 32 l).1) e

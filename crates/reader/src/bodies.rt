@@ -1,13 +1,13 @@
 // Reads the bodies of the blocks.
-ghost use Rattle.std.specs.Prelude.{◌≡◌, ◌+◌, ◌<◌, ◌≤◌, true, List, ◌++◌, length, Ok, Err};
+ghost use Rattle.std.specs.Prelude.{◌≡◌, ◌+◌, ◌≤◌, true, List, ◌++◌, length, Ok, Err};
 ghost use Rattle.reader.specs.Cursors.{cursor_of};
 ghost use Rattle.reader.specs.Read.{middles as middles_from, body as body_from, bodies as bodies_from};
 ghost use Rattle.reader.specs.Rows.{rows_program};
 ghost use Rattle.reader.specs.Steps.{GivesAs};
-ghost use Rattle.reader.specs.Totals.{total as total_of};
 ghost use Rattle.script.specs.Limits.{most_blocks, most_middles};
 ghost use Rattle.script.specs.Shape.{below};
 
+use super::counts::Counts;
 use super::cursor::Cursor;
 use super::fault::Fault;
 use super::rows::Rows;
@@ -50,17 +50,13 @@ impl Cursor<'_> {
     }
 
     // The bodies of the blocks, which have so many middle nodes each.
-    pub(crate) fn bodies(&mut self, blocks: u8, counts: &[usize]) -> Result<Rows, Fault>
-        requires some { 0 < blocks }
-        requires few { blocks ≤ most_blocks }
-        requires each { length counts.now ≡ blocks }
-        requires small { total_of counts.now ≤ most_middles }
-        ensures { GivesAs rows_program (bodies_from blocks counts.now (cursor_of self.old)) result (cursor_of self.new) }
+    pub(crate) fn bodies(&mut self, counts: &Counts) -> Result<Rows, Fault>
+        ensures { GivesAs rows_program (bodies_from counts.now.blocks counts.now.each.items (cursor_of self.old)) result (cursor_of self.new) }
     {
         let mut middles = ArrayVec::new();
         let mut ends = ArrayVec::new();
-        for count in counts {
-            let last = self.body(blocks, *count, &mut middles)?;
+        for count in counts.each.as_slice() {
+            let last = self.body(counts.blocks, *count, &mut middles)?;
             ends.push(BlockEnd {
                 end: middles.len(),
                 last,

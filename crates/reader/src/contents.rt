@@ -1,25 +1,24 @@
 // Reads the contents lines.
-ghost use Rattle.std.specs.Prelude.{◌≡◌, ◌≤◌, length, IfOk};
+ghost use Rattle.std.specs.Prelude.{◌≡◌, ◌≤◌, IfOk};
 ghost use Rattle.reader.specs.Cursors.{cursor_of};
 ghost use Rattle.reader.specs.Read.{contents as contents_from};
 ghost use Rattle.reader.specs.Steps.{GivesAs};
-ghost use Rattle.reader.specs.Totals.{total as total_of};
-ghost use Rattle.script.specs.Limits.{most_blocks, most_middles};
+ghost use Rattle.script.specs.Limits.{most_blocks};
 
+use super::counts::Counts;
 use super::cursor::Cursor;
 use super::fault::{Due, Fault, Question};
 use arrayvec::ArrayVec;
-use script::limits::{MOST_BLOCKS, MOST_MIDDLES};
+use script::limits::MOST_MIDDLES;
 
 impl Cursor<'_> {
     // The counts of the contents lines of n blocks.
-    pub(crate) fn contents(&mut self, n: u8) -> Result<ArrayVec<usize, MOST_BLOCKS>, Fault>
-        requires { n ≤ most_blocks }
-        ensures reads { GivesAs (λ counts. counts.items) (contents_from n 0 0 (cursor_of self.old)) result (cursor_of self.new) }
-        ensures many { IfOk result (λ counts. length counts.items ≡ n) }
-        ensures small { IfOk result (λ counts. total_of counts.items ≤ most_middles) }
+    pub(crate) fn contents(&mut self, n: u8) -> Result<Counts, Fault>
+        requires { (1 ≤ n) × (n ≤ most_blocks) }
+        ensures reads { GivesAs (λ counts. counts.each.items) (contents_from n 0 0 (cursor_of self.old)) result (cursor_of self.new) }
+        ensures blocks { IfOk result (λ counts. counts.blocks ≡ n) }
     {
-        let mut counts = ArrayVec::new();
+        let mut each = ArrayVec::new();
         let mut total: usize = 0;
         // i is the number in the block's name, and no index.
         for i in 0..n {
@@ -30,8 +29,8 @@ impl Cursor<'_> {
             if total > MOST_MIDDLES {
                 return Err(start.fault(Question::Total, Due::Count));
             }
-            counts.push(count);
+            each.push(count);
         }
-        Ok(counts)
+        Ok(Counts { blocks: n, each })
     }
 }

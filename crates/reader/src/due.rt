@@ -34,15 +34,16 @@ impl<'a> Cursor<'a> {
         ensures { (n : ℕ) (rows : List (Row T)) → Computes (FnOnceReturnsAt F.FnOnce read) (line_as n rows) → Gives (due_line due n rows (cursor_of self.old)) result (cursor_of self.new) }
     {
         let start = *self;
-        // It has a clause and stands here, since of a closure that is written into the last call nothing is known.
+        let line = self.next_line(due)?;
+        // In a `let`: written into the call, its clause is not in what `map_err` says here, on the result of a generic `read`.
         let flawed = |flaw|
             ensures { result ≡ fault_at (Question.Words flaw) due (cursor_of start.entry) }
         { start.fault(Question::Words(flaw), due) };
-        let line = self.next_line(due)?;
         read(line).map_err(flawed)
     }
 
-    // `blocks N`
+    // `blocks N`. That N is at most 64 is said where it is read, here, and asked where it is used, by `contents` and `body`: a
+    // type for one number would be no plainer.
     pub(crate) fn header(&mut self) -> Result<u8, Fault>
         ensures reads { Gives (due_line Due.Header 0 (header_row ∷ []) (cursor_of self.old)) result (cursor_of self.new) }
         ensures range { IfOk result (λ n. (1 ≤ n) × (n ≤ most_blocks)) }

@@ -33,7 +33,8 @@ pub(crate) fn header(line: &[u8]) -> Result<u32, Flaw>
     numbered(first == BLOCKS, Kind::SizeWord, rest)
 }
 
-// Whether a word is the name of block i.
+// Whether a word is the name of block i. The three functions that i passes through ask in a clause that it is below 64: a
+// type for one number would be no plainer.
 fn names_block(word: &[u8], i: u8) -> bool
     requires { i < most_blocks }
     ensures { result ≡ bytes_eq word.now (98 ∷ decimal i) }

@@ -8,6 +8,7 @@
 
 mod bodies;
 mod contents;
+mod counts;
 mod cursor;
 mod due;
 mod entry;

@@ -36,7 +36,7 @@ fn parse(text: &[u8]) -> Result<Rows, Fault>
     };
     let blocks = at.header()?;
     let counts = at.contents(blocks)?;
-    let rows = at.bodies(blocks, &counts)?;
+    let rows = at.bodies(&counts)?;
     at.finish()?;
     Ok(rows)
 }

@@ -1,7 +1,7 @@
 -- Quotients and remainders of whole numbers, wrapped to 32 bits.
 use Rattle.std.proofs.Common.{◌≡◌, ℕ, zero, suc, ◌+◌, ◌/◌, ◌%◌, ◌^◌, ◌<◌, ◌≤◌, cond, ℤ, pos, negsuc, ◌-ℤ◌, ◌*ℤ◌, neg_ℤ, sym, refl, ap, ◌∙◌, mod-eq_of_lt, div-le_self, arith, w32, SFits, to_z, of_z, ne_eqb}
 use native.Mathlib.Nat.{div-add-mod}
-use lib.IntN.{*ℤ-negsuc, *ℤ-zero, zero-*ℤ, +ℤ_idr}
+use lib.IntN.{*ℤ-negsuc, *ℤ-zero}
 use lib.Signed.{mag, quot_z, rem_z, mag_rem}
 use Rattle.std.specs.Int.{int_wrap}
 use Rattle.std.proofs.lemmas.Int.{ints, int_wrap_fits, int_wrap-mul_right, int_wrap-sub_right, to_z-of_z}
@@ -48,25 +48,11 @@ remainder_wrapped a b f =
     ∙ ap (λ z. int_wrap w32 (a -ℤ z)) (sym (int_wrap-mul_right w32 b (quot_z a b)))
     ∙ int_wrap-sub_right w32 a (b *ℤ int_wrap w32 (quot_z a b))
 
-pub zero_bits : (b : ℤ) → SFits w32 b → of_z w32 b ≡ 0 → b ≡ pos 0
-zero_bits (pos n) f e = ap pos e
-zero_bits (negsuc n) f e = absurd (omega (arith, f.sfits))
-
 quotient_else : (a b : ℤ) → (of_z w32 b ≡ 0 → ⊥) → quotient a b ≡ quot_z a b
 quotient_else a (pos n) h = ap (λ t. cond t (pos 0) (quot_z a (pos n))) (ne_eqb n 0 h)
 quotient_else a (negsuc n) h = refl
 
 module _ (a b r : ℤ) (fa : SFits w32 a) (fb : SFits w32 b) where
-  pub quotient_none : of_z w32 b ≡ 0 → pos 0 ≡ int_wrap w32 (quotient a b)
-  unfolding int_wrap
-  quotient_none e = sym (ap (λ z. int_wrap w32 (quotient a z)) (zero_bits b fb e))
-
-  pub remainder_none : of_z w32 b ≡ 0 → to_z w32 (of_z w32 a) ≡ int_wrap w32 (a -ℤ b *ℤ int_wrap w32 (quotient a b))
-  remainder_none e =
-      let z = zero_bits b fb e in
-      let w : a -ℤ pos 0 *ℤ int_wrap w32 (pos 0) ≡ a = ap (λ y. a -ℤ y) (zero-*ℤ (int_wrap w32 (pos 0))) ∙ +ℤ_idr a in
-      to_z-of_z w32 a fa ∙ sym (int_wrap_fits w32 a fa) ∙ ap (int_wrap w32) (sym w) ∙ ap (λ y. int_wrap w32 (a -ℤ y *ℤ int_wrap w32 (quotient a y))) (sym z)
-
   pub quotient_some : (of_z w32 b ≡ 0 → ⊥) → r ≡ to_z w32 (of_z w32 (quot_z (to_z w32 (of_z w32 a)) (to_z w32 (of_z w32 b)))) → r ≡ int_wrap w32 (quotient a b)
   quotient_some h e =
       e ∙ wrapped_once _ (omega (arith, quotient_small (to_z w32 (of_z w32 a)) (to_z w32 (of_z w32 b)), ap mag (to_z-of_z w32 a fa), fa.sfits))
