@@ -148,7 +148,8 @@ pub fn middle(line: &[u8], blocks: u8) -> Result<Middle, Flaw>
     Ok(middle_of(verb, &numbers))
 }
 
-// A last node, in a script of so many blocks.
+// A last node, in a script of so many blocks. One function for this and for `middle` would take the test and the maker as
+// closures and answer either type, which is no plainer than to say the four steps twice.
 pub fn last(line: &[u8], blocks: u8) -> Result<Last, Flaw>
     ensures { result ≡ line_as blocks last_rows line.now }
 {
