@@ -75,6 +75,7 @@ fn does_not_fit(heap: Global, script: &Script, length: usize) -> Result<bool, Al
 #[test]
 fn memory_too_short(rt: HostRuntime) -> Result<(), Fail> {
     let script = script_of(&rt, rt.alloc(), SETTLE)?;
+    // Each length that is too short: a length and no index, so there is nothing to go through.
     for length in 0..SETTLE.len() {
         assert!(rt; does_not_fit(rt.alloc(), &script, length)?, "{}", length);
     }

@@ -18,6 +18,7 @@ b60 8\nb61 8\nb62 8\n";
 
 const BODY: &[u8] = b"put r0\nput r0\nput r0\nput r0\nput r0\nput r0\nput r0\nput r0\ngo b63\n";
 
+// A part, so many times, after a text. By a loop: the library's `repeat` makes a vector of its own, which is no plainer.
 fn repeat(text: &mut Vec<u8>, part: &[u8], count: usize) -> Result<(), AllocError> {
     for _ in 0..count {
         text.extend_from_slice(part)?;

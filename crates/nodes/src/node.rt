@@ -74,7 +74,8 @@ fn compute(operation: Operation, numbers: &[i32]) -> Middle
     }
 }
 
-// The middle node of a verb with these operands.
+// The middle node of a verb with these operands. The verb and its numbers come side by side: a struct of both would be made
+// in `middle` and in `last` only to be taken apart here, which is no plainer.
 fn middle_of(verb: Verb, numbers: &[i32]) -> Middle
     requires inside { ends_block verb ≡ false }
     requires many { length numbers.now ≡ length (kinds_of verb) }

@@ -24,7 +24,8 @@ pub trait Lattice {
     fn start(&self) -> Self::Fact
         ensures { result ≡ origin self.now };
 
-    // The joined fact, and whether it differs from the old one: the interface of passes has a join answer both.
+    // The joined fact, and whether it differs from the old one. An `Option` of a fact that differs would be no plainer: a pair
+    // would put the old fact of one half back where only the other differs.
     fn join(&self, old: Self::Fact, new: Self::Fact) -> (Self::Fact, bool)
         ensures { result ≡ joined self.now old new };
 

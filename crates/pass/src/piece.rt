@@ -10,7 +10,7 @@ pub struct MiddlePiece {
     pub middles: ArrayVec<Middle, 4>,
 }
 
-// In place of a last node: 0 to 4 middle nodes, and a last node.
+// In place of a last node: 0 to 4 middle nodes, and a last node. A type of its own, since here there must be a last node.
 #[derive(Clone, Debug, PartialEq, Eq, Drop)]
 pub struct LastPiece {
     pub middles: ArrayVec<Middle, 4>,

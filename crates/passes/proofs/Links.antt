@@ -1,5 +1,5 @@
 -- Rows of sources: what keeps them well.
-use Rattle.std.specs.Prelude.{◌≡◌, ℕ, ◌<◌, Bool, true, false, cond, not, ltb, map, length, Some, None, Option, ◌==◌, ◌≢◌, nat_lt, slice_set, refl}
+use Rattle.std.specs.Prelude.{◌≡◌, ℕ, ◌<◌, Bool, true, false, cond, not, ltb, map, length, Some, None, Option, ◌==◌, ◌≢◌, nat_lt, slice_index_or, slice_set, refl}
 use Rattle.std.proofs.Common.{sym, ap, ◌∙◌, arith, length-set}
 use Rattle.std.proofs.Math.ListN.{get_or-map}
 use Rattle.std.proofs.lemmas.List.{length-map}
@@ -24,12 +24,15 @@ without_fine : (i d : ℕ) (o : Option ℕ) → fine i o ≡ true → fine i (wi
 without_fine i d None h = refl
 without_fine i d (Some s) h = cond_both (s == d) None (Some s) (λ o. fine i o ≡ true) (λ q. refl) (λ q. h)
 
+get_or_without : (d : ℕ) (r : Row) (i : ℕ) → slice_index_or (map (without d) r) i None ≡ without d (slice_index_or r i None)
+get_or_without d r i = get_or-map (without d) r i None
+
 pub length_killed : (r : Row) (d : ℕ) → length (killed r d) ≡ length r
 length_killed r d = length-set (map (without d) r) d None ∙ length-map r (without d)
 
 pub killed_at : (r : Row) (d i : ℕ) → d < length r → source (killed r d) i ≡ cond (i == d) None (without d (source r i))
 killed_at r d i h =
-    get_or_set_at (map (without d) r) d i None None (omega (arith, length-map r (without d))) ∙ ap (cond (i == d) None) (get_or-map (without d) r i None)
+    get_or_set_at (map (without d) r) d i None None (omega (arith, length-map r (without d))) ∙ ap (cond (i == d) None) (get_or_without d r i)
 
 pub killed_well : (r : Row) (d : ℕ) → d < length r → well r ≡ true → well (killed r d) ≡ true
 killed_well r d l w =

@@ -13,7 +13,7 @@ use Rattle.passes.specs.Constants.{FitsIf, Valid, known_as}
 use Rattle.passes.specs.ConstantsLaws.{zero_fits}
 use Rattle.passes.specs.Sources.{fine}
 
--- ---- a number that may be missing, for code that holds it as a flag and a number
+-- ---- a number that may be missing, as a flag and a number
 
 pub put_together : (o : Option ℤ) → cond (is_some o) (Some (unwrap_or o (pos 0))) None ≡ o
 put_together None = refl

@@ -9,6 +9,7 @@ use Rattle.script.specs.Arithmetic.{same}
 use Rattle.script.specs.Limits.{registers}
 use Rattle.pass.specs.Lattices.{LatticeLaws}
 use Rattle.pass.proofs.Rows.{length_row}
+use Rattle.passes.specs.declared.constants.Numbers.{Numbers}
 use Rattle.passes.specs.Shared.{shared}
 use Rattle.passes.specs.SharedLaws.{common_keeps, common_left, common_right, unchanged, falls}
 use Rattle.passes.specs.Constants.{FitsIf, Valid, Cautious, how_many, all_zero, meet, known_as}
@@ -25,11 +26,15 @@ zero_fits = record { sfits = lit< tt }
 pub zero_known : (i : ℕ) → i < registers → known_as all_zero i ≡ Some (pos 0)
 zero_known i h = get_or-replicate registers i (Some (pos 0)) None h
 
+joined_valid : (old new : Numbers) → Valid old → Valid (meet old new).0
+joined_valid old new v =
+    record { all = length_row (shared same old.row new.row); fits = λ i h. common_keeps same old.row new.row FitsIf tt i h (v.fits i h) }
+
 pub lattice : LatticeLaws Valid Cautious how_many all_zero meet
 lattice =
     record {
       start_valid = record { all = refl; fits = λ i h. subst FitsIf (sym (zero_known i h)) zero_fits };
-      join_valid = λ old new v w. record { all = length_row (shared same old.row new.row); fits = λ i h. common_keeps same old.row new.row FitsIf tt i h (v.fits i h) };
+      join_valid = λ old new v w. joined_valid old new v;
       reflexive = λ f v i h k e. e;
       transitive = λ f g h u v w p q i b k e. q i b k (p i b k e);
       over_old = λ old new v w. common_left same old.row new.row;

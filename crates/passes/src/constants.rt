@@ -14,7 +14,8 @@ use script::limits::EACH_REGISTER;
 use script::node::{Last, Middle, Operation};
 use script::register::Register;
 
-// For each register its number, where it is known.
+// For each register its number, where it is known. A struct around the row, as `PlainSources` is: what is generic is `Row`,
+// and the type says of which pass a fact is.
 #[derive(Clone, Copy, Debug, PartialEq, Eq)]
 pub struct Numbers {
     pub row: Row<i32>,

@@ -14,7 +14,8 @@ use words::operand::operand;
 
 const BLOCKS: &[u8] = b"blocks";
 
-// The one number of this kind after a first word, if that word is the one due.
+// The one number of this kind after a first word, if that word is the one due. A flag, since each of the two lines tests its
+// word in its own way, and a test handed over as a closure would be no plainer.
 fn numbered(named: bool, kind: Kind, rest: Option<&[u8]>) -> Result<u32, Flaw>
     ensures { result ≡ cond named (made_by (contents_row 0) (operands 0 (kind ∷ []) (option_map (λ x. x.now) rest.entry))) (Err Form) }
 {

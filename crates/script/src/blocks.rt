@@ -7,7 +7,7 @@ use super::looks::part;
 use super::node::Middle;
 
 // The blocks that are left: the row of all middle nodes, where those of the next block begin in it, and the ends of the
-// blocks.
+// blocks. Where they begin is a place, since the ends are places in the whole row.
 #[derive(Clone, Copy)]
 pub struct Blocks<'a> {
     pub(crate) middles: &'a [Middle],

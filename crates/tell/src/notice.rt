@@ -44,7 +44,7 @@ impl<'a> Notice<'a> {
         }
     }
 
-    // The line, from 1, or 0 where the text was not read at all.
+    // The line, from 1, or 0 where the text was not read at all: a number and no `Option`, since the 0 is printed.
     pub fn line(&self) -> usize
         ensures { result ≡ line_told self.now.reason }
     {
@@ -54,7 +54,7 @@ impl<'a> Notice<'a> {
         }
     }
 
-    // The number of the question that was answered No.
+    // The number of the question that was answered No. A number by a rule of the project, as that of a fault.
     pub fn number(&self) -> u8
         ensures { result ≡ number_told self.now.reason }
     {

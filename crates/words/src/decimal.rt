@@ -17,6 +17,7 @@ pub fn put_number(out: &mut [u8], at: usize, value: i32) -> Option<usize>
     if end > out.len() {
         return None;
     }
+    // Not by `get_mut(..)?`: once its borrow is over, no clause says what the other bytes are, and the proof needs that.
     out[at..end].copy_from_slice(text);
     Some(end)
 }

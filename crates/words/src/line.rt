@@ -38,6 +38,7 @@ fn values(kinds: &[Kind], blocks: u8, rest: Option<&[u8]>) -> Result<Operands, F
     let mut left = rest;
     for kind in kinds {
         let (word, more) = cut(left.ok_or(Flaw::Form)?, b' ');
+        // By a match: of the two flaws only a wrong form ends the reading.
         match operand(*kind, blocks, word) {
             Ok(x) => numbers.push(x),
             Err(Flaw::Range) => in_range = Err(Flaw::Range),

@@ -5,7 +5,8 @@ ghost use Rattle.words.specs.Forms.{verb_of};
 
 use script::node::Operation;
 
-// The first words, in the order of the table.
+// The first words, in the order of the table. The operations stand again among them: a variant that holds an `Operation`
+// has no place by which a row of the table is found.
 #[derive(Clone, Copy, Debug, PartialEq, Eq)]
 pub enum Verb {
     Set,
