@@ -5,6 +5,7 @@
 --   unused                   the middle node `put r0`, in places of a row that no node has taken
 --   blank                    the script `end r0`
 --   found p i                block i of p, if there is one
+--   begin_at from bs i       where the middle nodes of block i begin
 --   middle_count p           how many middle nodes all blocks have together
 use Rattle.std.specs.Prelude.{ℕ, zero, suc, ◌+◌, ◌-◌, List, [], ◌∷◌, length, take, drop, Some, None, vec_items, Option}
 use Rattle.std.proofs.Common.{lit<}
@@ -35,6 +36,11 @@ abbrev pub found : Program → ℕ → Option Block
 found [] i = None
 found (b ∷ bs) zero = Some b
 found (b ∷ bs) (suc i) = found bs i
+
+abbrev pub begin_at : ℕ → List BlockEnd → ℕ → ℕ
+begin_at from [] i = from
+begin_at from (b ∷ bs) zero = from
+begin_at from (b ∷ bs) (suc i) = begin_at b.end bs i
 
 abbrev pub middle_count : Program → ℕ
 middle_count [] = 0

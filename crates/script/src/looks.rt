@@ -1,6 +1,6 @@
 // Makes a script, and looks at its blocks.
-ghost use Rattle.std.specs.Prelude.{◌≡◌, ◌-◌, ◌≤◌, length, take, drop, IfOk, Some, None};
-ghost use Rattle.script.specs.Model.{program_of, blocks_from, blank, found, middle_count};
+ghost use Rattle.std.specs.Prelude.{◌≡◌, ◌-◌, ◌<◌, ◌≤◌, length, take, drop, IfOk, Some, None};
+ghost use Rattle.script.specs.Model.{program_of, blocks_from, blank, found, begin_at, middle_count};
 
 use super::block::{Block, BlockEnd};
 use super::blocks::Blocks;
@@ -46,10 +46,23 @@ impl Script {
     }
 
     // Block i, if there is one.
+    #[tactic(auto, using(crate::proofs::Stored::bounds, crate::proofs::Stored::found_at, crate::proofs::Stored::missing_at))]
     pub fn block(&self, i: usize) -> Option<Block<'_>>
         ensures { elim result [ Some b ↦ found (program_of self.now) i ≡ Some (b.middles.now, b.last) | None ↦ found (program_of self.now) i ≡ None ] }
     {
-        self.blocks().nth(i)
+        let stored = self.blocks.get(i)?;
+        Some(Block {
+            middles: part(self.middles.as_slice(), self.begin(i), stored.end),
+            last: stored.last,
+        })
+    }
+
+    // Where the middle nodes of block i begin.
+    fn begin(&self, i: usize) -> usize
+        requires { i < length self.now.blocks.items }
+        ensures { result ≡ begin_at 0 self.now.blocks.items i }
+    {
+        if i == 0 { 0 } else { self.blocks[i - 1].end }
     }
 }
 
