@@ -40,13 +40,13 @@ lacks_append c (x ∷ v) w h k = let two = and_parts _ _ h in and_from _ _ two.0
 
 -- ---- by the place of the byte
 
-found_cut : (c : ℕ) (l : List ℕ) (i : ℕ) → i < length l → lacks c (take i l) ≡ true → get_or l i 0 ≡ c → cut c l ≡ (take i l, Some (drop (i + 1) l))
+pub found_cut : (c : ℕ) (l : List ℕ) (i : ℕ) → i < length l → lacks c (take i l) ≡ true → get_or l i 0 ≡ c → cut c l ≡ (take i l, Some (drop (i + 1) l))
 found_cut c l i h k e =
     let parts : l ≡ take i l ++ after c (Some (drop (i + 1) l)) =
     sym (take-append-drop i l) ∙ ap (λ r. take i l ++ r) (drop_more l i 0 h) ∙ ap (λ d. take i l ++ d ∷ drop (i + 1) l) e in
     ap (cut c) parts ∙ cut_after c (take i l) (Some (drop (i + 1) l)) k
 
-none_cut : (c : ℕ) (l : List ℕ) → lacks c l ≡ true → cut c l ≡ (l, None)
+pub none_cut : (c : ℕ) (l : List ℕ) → lacks c l ≡ true → cut c l ≡ (l, None)
 none_cut c l k = ap (cut c) (sym (append-nil l)) ∙ cut_after c l None k
 
 lacks_within : (c : ℕ) (l : List ℕ) (i : ℕ) → AllWithin (λ x. x ≢ c) l 0 i → lacks c (take i l) ≡ true

@@ -115,7 +115,7 @@ plain_is : (ds : List ℕ) → plain ds ≡ true → value_after 0 ds < 2 ^ 64 �
 plain_is ds h s = decimal-digits_value own ds (plain_digits ds h) (plain_some ds h) (plain_first ds h) s
 
 -- a test that was passed
-some_when : {A : Type 0} (b : Bool) (o : Option A) (y : A) → cond b o None ≡ Some y → (b ≡ true) × (o ≡ Some y)
+pub some_when : {A : Type 0} (b : Bool) (o : Option A) (y : A) → cond b o None ≡ Some y → (b ≡ true) × (o ≡ Some y)
 some_when true o y e = (refl, e)
 some_when false o y e = absurd (cc)
 

@@ -27,7 +27,7 @@ onto_far xs ys (Ok u) (Err g) = refl
 onto_far xs ys (Err f) (Ok vs) = refl
 onto_far xs ys (Err f) (Err g) = refl
 
-onto_err : (xs : List ℤ) (far : Result (Unit {0}) Flaw) (g : Flaw) → onto xs far (Err g) ≡ Err g
+pub onto_err : (xs : List ℤ) (far : Result (Unit {0}) Flaw) (g : Flaw) → onto xs far (Err g) ≡ Err g
 onto_err xs (Ok u) g = refl
 onto_err xs (Err f) g = refl
 

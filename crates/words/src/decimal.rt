@@ -11,12 +11,13 @@ use itoa::Buffer;
 pub fn put_number(out: &mut [u8], at: usize, value: i32) -> Option<usize>
     ensures { Placed result out.old at (signed_decimal value) out.new }
 {
+    let room = out.len().checked_sub(at)?;
     let mut buffer = Buffer::new();
     let text = buffer.format(value).as_bytes();
-    let end = at.checked_add(text.len())?;
-    if end > out.len() {
+    if text.len() > room {
         return None;
     }
+    let end = at + text.len();
     // Not by `get_mut(..)?`: once its borrow is over, no clause says what the other bytes are, and the proof needs that.
     out[at..end].copy_from_slice(text);
     Some(end)

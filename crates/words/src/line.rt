@@ -1,5 +1,5 @@
 // Cuts a line into words that borrow it, and reads the words after the first.
-ghost use Rattle.std.specs.Prelude.{◌≡◌, ◌<◌, ◌≤◌, [], ◌∷◌, length};
+ghost use Rattle.std.specs.Prelude.{◌≡◌, ◌<◌, ◌≤◌, [], ◌∷◌, length, IfOk};
 ghost use Rattle.std.specs.Option.{option_map};
 ghost use Rattle.std.specs.Result.{result_map_both};
 ghost use Rattle.words.specs.Forms.{made_by, contents_row};
@@ -31,7 +31,8 @@ pub fn cut(bytes: &[u8], byte: u8) -> (&[u8], Option<&[u8]>)
 // goes before a number out of range.
 fn values(kinds: &[Kind], blocks: u8, rest: Option<&[u8]>) -> Result<Operands, Flaw>
     requires { length kinds.now ≤ 3 }
-    ensures { result_map_both (λ v. v.items) (λ f. f) result ≡ operands_of blocks kinds.now (option_map (λ x. x.now) rest.entry) }
+    ensures reads { result_map_both (λ v. v.items) (λ f. f) result ≡ operands_of blocks kinds.now (option_map (λ x. x.now) rest.entry) }
+    ensures many { IfOk result (λ v. length v.items ≡ length kinds.now) }
 {
     let mut numbers = Operands::new();
     let mut in_range = Ok(());
@@ -55,7 +56,8 @@ fn values(kinds: &[Kind], blocks: u8, rest: Option<&[u8]>) -> Result<Operands, F
 
 // The numbers of a node's operands, in a script of so many blocks.
 pub fn operands(verb: Verb, blocks: u8, rest: Option<&[u8]>) -> Result<Operands, Flaw>
-    ensures { result_map_both (λ v. v.items) (λ f. f) result ≡ operands_of blocks (kinds_of verb) (option_map (λ x. x.now) rest.entry) }
+    ensures reads { result_map_both (λ v. v.items) (λ f. f) result ≡ operands_of blocks (kinds_of verb) (option_map (λ x. x.now) rest.entry) }
+    ensures many { IfOk result (λ v. length v.items ≡ length (kinds_of verb)) }
 {
     values(kinds(verb), blocks, rest)
 }
