@@ -18,13 +18,13 @@ same_decimal v i a b =
     same_from_decides (eqb v i) (bytes_eq (decimal v) (decimal i)) (Decides-eqb v i)
     (Decides-like (bytes_eq (decimal v) (decimal i)) (decimal_injective v i (omega arith) (omega arith)) (ap decimal) (bytes_eq-Decides (decimal v) (decimal i)))
 
-names_ok : (w : List ℕ) (i : ℕ) → i < most_blocks → (x : ℤ) → Ok x ≡ operand most_blocks BlockWord w → eqb (of_z w32 x) i ≡ bytes_eq w (98 ∷ decimal i)
+pub names_ok : (w : List ℕ) (i : ℕ) → i < most_blocks → (x : ℤ) → Ok x ≡ operand most_blocks BlockWord w → eqb (of_z w32 x) i ≡ bytes_eq w (98 ∷ decimal i)
 names_ok w i h x e =
     let is = operand_is most_blocks (omega arith) BlockWord w x (sym e) in
     let at = from_to_pos 0 most_blocks x is.1 in
     ap (λ y. eqb (of_z w32 y) i) at.1 ∙ same_decimal at.0 i at.3 h ∙ sym (ap (λ u. bytes_eq u (98 ∷ decimal i)) (is.0 ∙ ap (λ y. 98 ∷ signed_decimal y) at.1))
 
-names_err : (w : List ℕ) (i : ℕ) → i < most_blocks → (f : Flaw) → Err f ≡ operand most_blocks BlockWord w → bytes_eq w (98 ∷ decimal i) ≡ false
+pub names_err : (w : List ℕ) (i : ℕ) → i < most_blocks → (f : Flaw) → Err f ≡ operand most_blocks BlockWord w → bytes_eq w (98 ∷ decimal i) ≡ false
 names_err w i h f e =
     false_from_ne_true (bytes_eq w (98 ∷ decimal i)) (λ t.
     let is = (bytes_eq-Decides w (98 ∷ decimal i)).0 t in

@@ -39,7 +39,7 @@ bodies_first p b rest e =
     ∙ ap (λ r. middles_text b.0 [] ++ r) (line_splits (last_text b.1) (bodies_text rest []))
     ∙ sym (append_assoc (middles_text b.0 []) (last_text b.1 ++ 10 ∷ []) (bodies_text rest []))
 
-text_splits : (p : Program) (n : ℕ) → n ≡ length p → text p ≡ (header_text n ++ 10 ∷ []) ++ (counts_text 0 (counts p) [] ++ bodies_text p [])
+pub text_splits : (p : Program) (n : ℕ) → n ≡ length p → text p ≡ (header_text n ++ 10 ∷ []) ++ (counts_text 0 (counts p) [] ++ bodies_text p [])
 text_splits p n e =
     line_splits (header_text (length p)) (counts_text 0 (counts p) (bodies_text p [])) ∙ (λ i. (header_text (sym e i) ++ 10 ∷ []) ++ counts_then (counts p) 0 (bodies_text p []) i)
 
