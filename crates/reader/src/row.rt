@@ -3,9 +3,10 @@ ghost use Rattle.std.specs.Prelude.{◌≡◌, ◌<◌, ◌≤◌, [], ◌∷◌
 
 use std::marker::Model;
 
-// As many of the places, from the first on, as are filled. A clause sees the list of what was put there. The places are lent,
-// so they are made once, where they stay: a vector that holds its places itself (`ArrayVec`) is made as a value, which is
-// zeroed and copied on the way to where it stays.
+// The places that are filled, from the first on: a clause sees the list of what was put there. They are lent, so an array for
+// them is made once and stays where it is. A vector that holds its places itself (`ArrayVec`) is made as a value, and is zeroed
+// and copied on its way to where it stays. N is how many places there are. `places` is a slice, since of an array of any T the
+// check would ask that it be small enough.
 #[derive(Drop)]
 pub(crate) struct Row<'a, T, const N: usize> {
     places: &'a mut [T],
