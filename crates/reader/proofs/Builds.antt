@@ -24,15 +24,15 @@ use Rattle.reader.specs.Totals.{total}
 use Rattle.reader.proofs.Loops.{joins, joins_more, total_sum}
 
 module _ (b : BlockEnd) where
-  ends_more : (from : ℕ) (bs : List BlockEnd) (size : ℕ) → ends_at from bs size ≡ true → size ≤ b.end → ends_at from (bs ++ b ∷ []) b.end ≡ true
+  pub ends_more : (from : ℕ) (bs : List BlockEnd) (size : ℕ) → ends_at from bs size ≡ true → size ≤ b.end → ends_at from (bs ++ b ∷ []) b.end ≡ true
   ends_more from [] size e h = and_from _ _ (le-leb from b.end (omega (arith, eqb-true from size e))) (eq-eqb b.end b.end refl)
   ends_more from (a ∷ bs) size e h = let two = and_parts _ _ e in and_from _ _ two.0 (ends_more a.end bs size two.1 h)
 
-  below_block : (n : ℕ) (bs : List BlockEnd) → all_below n bs ≡ true → below n b.last ≡ true → all_below n (bs ++ b ∷ []) ≡ true
+  pub below_block : (n : ℕ) (bs : List BlockEnd) → all_below n bs ≡ true → below n b.last ≡ true → all_below n (bs ++ b ∷ []) ≡ true
   below_block n [] e h = and_from _ _ h refl
   below_block n (a ∷ bs) e h = let two = and_parts _ _ e in and_from _ _ two.0 (below_block n bs two.1 h)
 
-  model_block : (ms xs : List Middle) (from : ℕ) (bs : List BlockEnd) → ends_at from bs (length ms) ≡ true → b.end ≡ length ms + length xs
+  pub model_block : (ms xs : List Middle) (from : ℕ) (bs : List BlockEnd) → ends_at from bs (length ms) ≡ true → b.end ≡ length ms + length xs
       → blocks_from (ms ++ xs) from (bs ++ b ∷ []) ≡ blocks_from ms from bs ++ (xs, b.last) ∷ []
   model_block ms xs from [] e h =
       let at = eqb-true from (length ms) e in
@@ -70,7 +70,7 @@ module _ (n : ℕ) (b : n ≤ most_blocks) where
   if_targets (u ∷ v ∷ []) f = absurd f.1.1
   if_targets (u ∷ v ∷ w ∷ vs) f = and_from _ _ (low n b v f.1.0) (low n b w f.1.1.0)
 
-due_targets : (n : ℕ) → n ≤ most_blocks → (c : Cursor) (y : Last × Cursor) → due LastNode n last_rows c ≡ Ok y → below n y.0 ≡ true
+pub due_targets : (n : ℕ) → n ≤ most_blocks → (c : Cursor) (y : Last × Cursor) → due LastNode n last_rows c ≡ Ok y → below n y.0 ≡ true
 due_targets n b c y e = (due_is LastNode n b (Targets n) last_rows (λ b. (go_targets n b, (if_targets n b, ((λ vs f. refl), tt)))) c y e).2
 
 -- ---- the bodies, one after the other
@@ -89,7 +89,7 @@ module _ (n : ℕ) (ks : List ℕ) (i : ℕ) (c : Cursor) (p : Program) (h : i <
   abbrev after_block : Block × Cursor → Step Program
   after_block q = then (bodies n (drop (i + 1) ks) q.1) (λ t. Ok (q.0 ∷ t.0, t.1))
 
-  bodies_step : (b : Block) (d : Cursor) → body n (get_or ks i 0) c ≡ Ok (b, d) → joins p (bodies n (drop i ks) c) ≡ joins (p ++ b ∷ []) (bodies n (drop (i + 1) ks) d)
+  pub bodies_step : (b : Block) (d : Cursor) → body n (get_or ks i 0) c ≡ Ok (b, d) → joins p (bodies n (drop i ks) c) ≡ joins (p ++ b ∷ []) (bodies n (drop (i + 1) ks) d)
   bodies_step b d e = ap (joins p) (ap (λ l. bodies n l c) (drop_more ks i 0 h) ∙ ap (λ r. then r after_block) e) ∙ joins_more p b (bodies n (drop (i + 1) ks) d)
 
 pub total_room : (ks : List ℕ) (i : ℕ) → i < length ks → total (take i ks) + get_or ks i 0 ≤ total ks

@@ -4,4 +4,4 @@ use Rattle.script.specs.Run.{Program}
 use Rattle.reader.specs.declared.rows.Rows.{Rows}
 
 abbrev pub rows_program : Rows → Program
-rows_program r = blocks_from r.middles.items 0 r.ends.items
+rows_program r = blocks_from r.middles 0 r.ends

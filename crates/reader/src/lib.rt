@@ -13,6 +13,7 @@ mod cursor;
 mod due;
 mod entry;
 pub mod fault;
+mod row;
 mod rows;
 mod whole;
 

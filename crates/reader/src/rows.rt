@@ -2,25 +2,25 @@
 ghost use Rattle.std.specs.Prelude.{◌≡◌, ◌<◌, true, length};
 ghost use Rattle.script.specs.Shape.{ends_at, all_below};
 
-use arrayvec::ArrayVec;
+use super::row::Row;
 use script::block::BlockEnd;
 use script::limits::{MOST_BLOCKS, MOST_MIDDLES};
 use script::node::Middle;
 use script::store::Script;
 
 // The rows as a script stores them: the middle nodes of all blocks one after the other, and the end of each block. What
-// holds of them is said again, since a script has memory reserved in vectors and these have fixed memory: two types, over
-// the same definitions.
+// holds of them is said again, since a script has memory reserved in vectors and these fill places that are lent: two types,
+// over the same definitions.
 #[derive(Drop)]
-pub(crate) struct Rows {
-    pub(crate) middles: ArrayVec<Middle, MOST_MIDDLES>,
-    pub(crate) ends: ArrayVec<BlockEnd, MOST_BLOCKS>,
-    ghost some: { 0 < length ends.items },
-    ghost order: { ends_at 0 ends.items (length middles.items) ≡ true },
-    ghost named: { all_below (length ends.items) ends.items ≡ true },
+pub(crate) struct Rows<'a> {
+    pub(crate) middles: Row<'a, Middle, MOST_MIDDLES>,
+    pub(crate) ends: Row<'a, BlockEnd, MOST_BLOCKS>,
+    ghost some: { 0 < length ends },
+    ghost order: { ends_at 0 ends (length middles) ≡ true },
+    ghost named: { all_below (length ends) ends ≡ true },
 }
 
-impl Rows {
+impl Rows<'_> {
     ghost use Rattle.script.specs.Model.{program_of};
     ghost use Rattle.reader.specs.Rows.{rows_program};
 
@@ -29,8 +29,14 @@ impl Rows {
         ensures { program_of script.new ≡ rows_program self.now }
     {
         script.middles.clear();
-        script.middles.extend_from_slice(&self.middles).unwrap();
+        script
+            .middles
+            .extend_from_slice(self.middles.as_slice())
+            .unwrap();
         script.blocks.clear();
-        script.blocks.extend_from_slice(&self.ends).unwrap();
+        script
+            .blocks
+            .extend_from_slice(self.ends.as_slice())
+            .unwrap();
     }
 }

@@ -10,6 +10,9 @@ ghost use Rattle.script.specs.Run.{Program};
 use super::cursor::Cursor;
 use super::fault::{Due, Fault, Question};
 use super::rows::Rows;
+use script::block::BlockEnd;
+use script::limits::{MOST_BLOCKS, MOST_MIDDLES};
+use script::node::Middle;
 use script::store::Script;
 
 impl Cursor<'_> {
@@ -25,8 +28,12 @@ impl Cursor<'_> {
     }
 }
 
-// Reads a text into rows.
-fn parse(text: &[u8]) -> Result<Rows, Fault>
+// Reads a text into rows, whose places are lent.
+fn parse<'m>(
+    text: &[u8],
+    middles: &'m mut [Middle; MOST_MIDDLES],
+    ends: &'m mut [BlockEnd; MOST_BLOCKS],
+) -> Result<Rows<'m>, Fault>
     ensures { elim result [ Ok rows ↦ read_text text.now ≡ Ok (rows_program rows) | Err f ↦ read_text text.now ≡ Err f ] }
 {
     let mut at = Cursor {
@@ -35,8 +42,9 @@ fn parse(text: &[u8]) -> Result<Rows, Fault>
         place: 0,
     };
     let blocks = at.header()?;
-    let counts = at.contents(blocks)?;
-    let rows = at.bodies(&counts)?;
+    let mut each = [0; MOST_BLOCKS];
+    let counts = at.contents(blocks, &mut each)?;
+    let rows = at.bodies(&counts, middles, ends)?;
     at.finish()?;
     Ok(rows)
 }
@@ -45,7 +53,9 @@ fn parse(text: &[u8]) -> Result<Rows, Fault>
 pub fn read(text: &[u8], into: &mut Script) -> Result<(), Fault>
     ensures { Reads text.now into.old result into.new }
 {
-    parse(text)?.copy_to(into);
+    let mut middles = [Middle::default(); MOST_MIDDLES];
+    let mut ends = [BlockEnd::default(); MOST_BLOCKS];
+    parse(text, &mut middles, &mut ends)?.copy_to(into);
     Ok(())
 }
 

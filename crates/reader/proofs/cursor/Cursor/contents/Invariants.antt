@@ -8,7 +8,7 @@ use Rattle.reader.proofs.cursor.Cursor.contents.Given as goal
 
 abbrev pub invariant-loop-i : goal.invariant-loop-i
 invariant-loop-i l =
-    (contents l.n 0 0 (cursor_of l.initial.self) ≡ joins l.each.items (contents (l.n - l.i) l.i l.total (cursor_of l.self)))
-    × (length l.each.items ≡ l.i)
-    × (l.total ≡ total l.each.items)
+    (contents l.n 0 0 (cursor_of l.initial.self) ≡ joins l.each (contents (l.n - l.i) l.i l.total (cursor_of l.self)))
+    × (length l.each ≡ l.i)
+    × (l.total ≡ total l.each)
     × (l.total ≤ most_middles)

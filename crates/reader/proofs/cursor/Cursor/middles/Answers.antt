@@ -15,7 +15,7 @@ loop-preserved c =
     let so = c.loop.invariant in
     let m = c.in_ok-middle.field-0 in (
       so.0 ++ m ∷ [],
-      c.push.ensures.items ∙ ap (λ l. l ++ m ∷ []) so.1 ∙ append_assoc c.args.row.now.items so.0 (m ∷ []),
+      c.push.ensures ∙ ap (λ l. l ++ m ∷ []) so.1 ∙ append_assoc c.args.row.now so.0 (m ∷ []),
       omega (arith, length-append so.0 (m ∷ []), so.2),
       so.3 ∙ middles_step c.args.blocks c.args.count c.loop.counter (cursor_of c.loop.self) so.0 c.loop-test.true m _ c.in_ok-middle.ensures,
     )

@@ -8,6 +8,6 @@ use Rattle.reader.proofs.cursor.Cursor.middles.Given as goal
 abbrev pub invariant-loop : goal.invariant-loop
 invariant-loop l =
     (xs : List Middle)
-    × (l.row.items ≡ l.initial.row.items ++ xs)
+    × (l.row ≡ l.initial.row ++ xs)
     × (length xs ≡ l.counter)
     × (middles l.blocks l.count (cursor_of l.initial.self) ≡ joins xs (middles l.blocks (l.count - l.counter) (cursor_of l.self)))
