@@ -2,7 +2,7 @@
 --
 --   middle_piece p   the nodes proposed in place of a middle node
 --   last_piece p     the nodes proposed in place of a last node
-use Rattle.std.specs.Prelude.{List, Option}
+use Rattle.std.specs.Prelude.{List, take, Option}
 use Rattle.std.specs.Option.{option_map}
 use Rattle.script.specs.declared.node.Middle.{Middle}
 use Rattle.script.specs.declared.node.Last.{Last}
@@ -10,7 +10,7 @@ use Rattle.pass.specs.declared.piece.MiddlePiece.{MiddlePiece}
 use Rattle.pass.specs.declared.piece.LastPiece.{LastPiece}
 
 abbrev pub middle_piece : Option MiddlePiece → Option (List Middle)
-middle_piece p = option_map (λ piece. piece.middles.items) p
+middle_piece p = option_map (λ piece. take piece.count piece.middles) p
 
 abbrev pub last_piece : Option LastPiece → Option (List Middle × Last)
-last_piece p = option_map (λ piece. (piece.middles.items, piece.last)) p
+last_piece p = option_map (λ piece. (take piece.count piece.middles, piece.last)) p

@@ -9,6 +9,8 @@
 mod admission;
 pub mod edge;
 pub mod forward;
+mod lasts;
 pub mod lattice;
+mod middles;
 pub mod pair;
 pub mod piece;

@@ -118,7 +118,10 @@ impl Lattice for Copies {
     }
 
     fn join(&self, old: PlainSources, new: PlainSources) -> (PlainSources, bool) {
-        let (Some(a), Some(b)) = (Sources::checked(old.row), Sources::checked(new.row)) else {
+        let Some(a) = Sources::checked(old.row) else {
+            return (nothing(), true);
+        };
+        let Some(b) = Sources::checked(new.row) else {
             return (nothing(), true);
         };
         let (both, differs) = a.join(&b);

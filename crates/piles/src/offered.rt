@@ -9,10 +9,13 @@ use std::test::Fail;
 // A kind of node: a middle node or a last node.
 pub trait Offered: Copy {
     // What may stand in its place.
-    type Piece: PartialEq + Debug + Drop;
+    type Piece: PartialEq + Debug + Copy;
 
     // The node of a line.
     fn named(line: &str) -> Result<Self, Fail>;
+
+    // No piece.
+    fn nothing() -> Option<Self::Piece>;
 
     // The piece that is this node alone.
     fn alone(self) -> Self::Piece;
@@ -26,6 +29,10 @@ impl Offered for Middle {
 
     fn named(line: &str) -> Result<Middle, Fail> {
         middle(line.as_bytes(), 64).map_err(|_| Fail::new("no middle node"))
+    }
+
+    fn nothing() -> Option<MiddlePiece> {
+        MiddlePiece::none()
     }
 
     fn alone(self) -> MiddlePiece {
@@ -42,6 +49,10 @@ impl Offered for Last {
 
     fn named(line: &str) -> Result<Last, Fail> {
         last(line.as_bytes(), 64).map_err(|_| Fail::new("no last node"))
+    }
+
+    fn nothing() -> Option<LastPiece> {
+        LastPiece::none()
     }
 
     fn alone(self) -> LastPiece {

@@ -47,11 +47,11 @@ fn after_ways<P: ForwardPass>(pass: &P, ways: &str) -> Result<P::Fact, Fail> {
     }
 }
 
-// The piece that an example expects.
+// The piece that an example expects, if any.
 fn expected<N: Offered>(node: Option<&str>) -> Result<Option<N::Piece>, Fail> {
     match node {
         Some(line) => Ok(Some(N::named(line)?.alone())),
-        None => Ok(None),
+        None => Ok(N::nothing()),
     }
 }
 
