@@ -1,4 +1,6 @@
 // Prints text line by line.
+ghost use Rattle.std.specs.Prelude.{◌≡◌, []};
+
 use arrayvec::ArrayVec;
 use std::{fmt, io};
 
@@ -17,7 +19,9 @@ struct Lines<'r> {
 
 impl Lines<'_> {
     // Writes what stands here of a line.
-    fn flush(&mut self) -> fmt::Result {
+    fn flush(&mut self) -> fmt::Result
+        ensures { self.new.line.items ≡ [] }
+    {
         let written = self.rt.write_all(self.line.as_slice());
         self.line.clear();
         match written {
