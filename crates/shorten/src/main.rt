@@ -7,6 +7,7 @@
 #![tactic(auto)]
 
 mod arguments;
+mod lines;
 mod report;
 mod stop;
 mod text;
@@ -30,7 +31,7 @@ fn shorten<'a>(rt: &HostRuntime, arguments: &'a Arguments) -> Result<(), Stop<'a
         script: &script,
         written,
     };
-    println!(rt; "{report}")?;
+    lines::print(rt, report)?;
     if let Some(path) = &arguments.output {
         text::save(rt, path.as_str(), written)?;
         println!(rt; "written to: {path}")?;

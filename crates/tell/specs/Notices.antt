@@ -23,7 +23,7 @@ use Rattle.reader.specs.declared.fault.Question.{Question}
 use Rattle.reader.specs.declared.fault.Question.TheVariants.{Feed, Words, Total, Finish}
 use Rattle.tell.specs.declared.notice.Notice.{Notice}
 use Rattle.tell.specs.declared.notice.Reason.{Reason}
-use Rattle.tell.specs.declared.notice.Reason.TheVariants.{TooLong, Faulty}
+use Rattle.tell.specs.declared.notice.Reason.TheVariants.{TooLong, Faulty, Told}
 
 abbrev pub form_of : Due → List ℕ
 form_of Header = codes "expected `blocks N`"
@@ -60,22 +60,27 @@ told_long name = line name 0 2 (codes "bench") (codes "expected a text of at mos
 abbrev pub line_told : Reason → ℕ
 line_told TooLong = 0
 line_told (Faulty f) = f.line
+line_told (Told l n y e p) = l
 
 abbrev pub number_told : Reason → ℕ
 number_told TooLong = 2
 number_told (Faulty f) = number_of f.question
+number_told (Told l n y e p) = n
 
 abbrev pub layer_told : Reason → List ℕ
 layer_told TooLong = codes "bench"
 layer_told (Faulty f) = layer_name (layer_of f.question)
+layer_told (Told l n y e p) = y.now
 
 abbrev pub expected_told : Reason → List ℕ
 expected_told TooLong = codes "expected a text of at most 16384 bytes"
 expected_told (Faulty f) = expected_of f.question f.due
+expected_told (Told l n y e p) = e.now
 
 abbrev pub place_told : Reason → ℕ
 place_told TooLong = 0
 place_told (Faulty f) = f.place
+place_told (Told l n y e p) = p
 
 abbrev pub line_of : Notice → List ℕ
 line_of n =

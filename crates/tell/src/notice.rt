@@ -13,6 +13,15 @@ pub enum Reason {
     TooLong,
     // it has this fault
     Faulty(Fault),
+    // it was turned away by whoever tells of it, who says all of this: the line, or 0 where the text was not read, the
+    // number of the question, the layer that put it, what was expected, and the byte where the line begins
+    Told {
+        line: usize,
+        number: u8,
+        layer: &'static str,
+        expected: &'static str,
+        place: usize,
+    },
 }
 
 // What is told of a text that is turned away.
@@ -51,6 +60,7 @@ impl<'a> Notice<'a> {
         match self.reason {
             Reason::TooLong => 0,
             Reason::Faulty(fault) => fault.line,
+            Reason::Told { line, .. } => line,
         }
     }
 
@@ -61,6 +71,7 @@ impl<'a> Notice<'a> {
         match self.reason {
             Reason::TooLong => 2,
             Reason::Faulty(fault) => fault.number(),
+            Reason::Told { number, .. } => number,
         }
     }
 
@@ -71,6 +82,7 @@ impl<'a> Notice<'a> {
         match self.reason {
             Reason::TooLong => "bench",
             Reason::Faulty(fault) => fault.layer().name(),
+            Reason::Told { layer, .. } => layer,
         }
     }
 
@@ -81,6 +93,7 @@ impl<'a> Notice<'a> {
         match self.reason {
             Reason::TooLong => "expected a text of at most 16384 bytes",
             Reason::Faulty(fault) => expected(fault),
+            Reason::Told { expected, .. } => expected,
         }
     }
 
@@ -91,6 +104,7 @@ impl<'a> Notice<'a> {
         match self.reason {
             Reason::TooLong => 0,
             Reason::Faulty(fault) => fault.place,
+            Reason::Told { place, .. } => place,
         }
     }
 }
