@@ -24,12 +24,22 @@ pub fn put_number(out: &mut [u8], at: usize, value: i32) -> Option<usize>
 }
 
 // Writes a number after what stands on a page, or leaves the page as it was where it does not fit.
+#[tactic(auto, using(std::proofs::lemmas::Fmt::decimal_digit, std::proofs::lemmas::Fmt::decimal_step))]
 pub fn push_number<const N: usize>(
     page: &mut ArrayVec<u8, N>,
     value: i32,
 ) -> Result<(), CapacityError>
     ensures { Pushed N result page.old.items (signed_decimal value) page.new.items }
 {
+    // Most numbers of a text have a digit or two: these go onto the page without a buffer between.
+    if let Ok(small) = u8::try_from(value) {
+        if small < 10 {
+            return page.try_extend_from_slice(&[b'0' + small]);
+        }
+        if small < 100 {
+            return page.try_extend_from_slice(&[b'0' + small / 10, b'0' + small % 10]);
+        }
+    }
     let mut buffer = Buffer::new();
     let text = buffer.format(value);
     page.try_extend_from_slice(text.as_bytes())
