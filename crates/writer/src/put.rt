@@ -22,25 +22,40 @@ pub(crate) fn put_lettered(page: &mut Page, letter: u8, value: i32) -> Result<()
     push_number(page, value)
 }
 
-// A word of a kind.
-fn put_word(page: &mut Page, kind: Kind, value: i32) -> Result<(), CapacityError>
-    ensures { Wrote result page.old.items (spell kind value) page.new.items }
+// A space, a letter and a number. Most words of a text are such, with a digit or two: these go onto the page at once.
+#[tactic(auto, using(std::proofs::lemmas::Fmt::decimal_digit, std::proofs::lemmas::Fmt::decimal_step))]
+fn put_lettered_operand(page: &mut Page, letter: u8, value: i32) -> Result<(), CapacityError>
+    ensures { Wrote result page.old.items (32 ∷ (letter ∷ signed_decimal value)) page.new.items }
 {
-    match kind {
-        Kind::RegisterWord => put_lettered(page, b'r', value),
-        Kind::BlockWord => put_lettered(page, b'b', value),
-        Kind::SlotWord | Kind::NumberWord | Kind::SizeWord | Kind::CountWord => {
-            push_number(page, value)
+    if let Ok(small) = u8::try_from(value) {
+        if small < 10 {
+            return page.try_extend_from_slice(&[b' ', letter, b'0' + small]);
+        }
+        if small < 100 {
+            return page.try_extend_from_slice(&[
+                b' ',
+                letter,
+                b'0' + small / 10,
+                b'0' + small % 10,
+            ]);
         }
     }
+    page.try_extend_from_slice(b" ")?;
+    put_lettered(page, letter, value)
 }
 
 // A space and a word.
 fn put_operand(page: &mut Page, kind: Kind, value: i32) -> Result<(), CapacityError>
     ensures { Wrote result page.old.items (32 ∷ spell kind value) page.new.items }
 {
-    page.try_extend_from_slice(b" ")?;
-    put_word(page, kind, value)
+    match kind {
+        Kind::RegisterWord => put_lettered_operand(page, b'r', value),
+        Kind::BlockWord => put_lettered_operand(page, b'b', value),
+        Kind::SlotWord | Kind::NumberWord | Kind::SizeWord | Kind::CountWord => {
+            page.try_extend_from_slice(b" ")?;
+            push_number(page, value)
+        }
+    }
 }
 
 // Words of these kinds, each after a space. Where one list is longer, what is left of it is not written.
