@@ -1,4 +1,5 @@
--- What the tables of node lines say of each verb, and a line whose first word is the name of no verb.
+-- What the tables of node lines say of each verb, and a line whose first word is the name of no verb. (The lemmas on the row
+-- of a verb are for proofs about lines that were read; none here needs them.)
 use Rattle.std.proofs.Common.{◌≡◌, ℕ, cond, List, [], ◌∷◌, length, take, ℤ, Some, None, Err, Result, sym, refl, ap, ◌∙◌}
 use Rattle.std.specs.Str.{bytes_eq}
 use Rattle.std.proofs.lemmas.Bool.{false_from_ne_true}

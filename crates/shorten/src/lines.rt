@@ -1,6 +1,7 @@
-// Prints text line by line.
+// Prints a report line by line.
 ghost use Rattle.std.specs.Prelude.{◌≡◌, []};
 
+use super::report::Report;
 use arrayvec::ArrayVec;
 use std::{fmt, io};
 
@@ -41,22 +42,23 @@ impl fmt::Write for Lines<'_> {
                 self.flush()?;
             }
             self.line.push(*byte);
-            if *byte == b'\n' {
-                self.flush()?;
-            }
+        }
+        // `writeln!` ends a line with a piece of its own. A line feed inside a name ends none.
+        if s == "\n" {
+            self.flush()?;
         }
         Ok(())
     }
 }
 
-// Prints a value and a line feed.
-pub fn print<D: fmt::Display + Drop>(rt: &HostRuntime, value: D) -> io::Result<()> {
+// Prints a report and a line feed. The text of a report can't fail, so an error is one of writing.
+pub fn print(rt: &HostRuntime, report: Report<'_, '_>) -> io::Result<()> {
     let mut lines = Lines {
         rt,
         line: ArrayVec::new(),
         error: None,
     };
-    let told = fmt::Write::writeln(&mut lines, value);
+    let _ = fmt::Write::writeln(&mut lines, report);
     match lines.error {
         Some(error) => Err(error),
         None => Ok(()),
